@@ -10,10 +10,14 @@ use Rattle.ed_syntax.specs.meaning.Verbs.{is_global}
 use Rattle.ed_rules.specs.declared.state.State.{State}
 use Rattle.ed_rules.specs.States as states
 use Rattle.ed_rules.specs.Formed.{IsCounted}
+use Rattle.landmarks.specs.declared.landmark.Landmark.{Landmark}
+use Rattle.landmarks.specs.ChainValues.{ChainValue}
+use Rattle.cert_check.specs.declared.certificate.Version.{Version}
 use Rattle.cert_check.specs.declared.sight.Sight.{Sight}
 use Rattle.cert_check.specs.checker.Covering.{covers}
 use Rattle.cert_check.specs.declared.checker.verdict.Verdict.TheVariants.{Accepted}
 use Rattle.cert_check.specs.Certificates.{Looped, Note, Certificate}
+use Rattle.cert_check.specs.checker.Beginning.{chains_of, stated_chains, has_letters, letters_of_chains, began, start_of}
 use Rattle.cert_check.specs.checker.Valid.{Check, at, seen_by, sight_of, told, told_by, verdict_of, counted, has_quit, left_after, is_listed, knows_least, knows_most, end_checks, checks_from, fits_list, are_shaped, judged}
 use Rattle.analyser.specs.declared.analysis.Start.{Start}
 use Rattle.analyser.specs.Rounds.{entered}
@@ -93,9 +97,25 @@ sight-asked : (script : Script) (start : Start) (c : Certificate) → IsCertific
 sight-asked script start c is =
     ap (λ version. sight_of script version c.has) is.version ∙ ap (λ has. sight_of script (version_of start.has) has) is.has
 
-begins-as : (script : Script) (start : Start) (c : Certificate) → IsCertificate script start c → told (sight_over script start) (states.start c.path c.min c.max c.has) ≡ begun start
+-- no landmarks are stated
+began-without : (has : Option (List (List ℕ))) (letters : List ℕ) (chains : List (List Landmark)) (s : State) →
+    began (version_of has) letters chains s ≡ s
+began-without None letters chains s = refl
+began-without (Some has) letters chains s = refl
+
+no_letters-asked : (script : Script) (has : Option (List (List ℕ))) (chains : List ChainValue) →
+    has_letters script (stated_chains (version_of has) chains) ≡ true
+no_letters-asked script None chains = refl
+no_letters-asked script (Some has) chains = refl
+
+begins-as : (script : Script) (start : Start) (c : Certificate) → IsCertificate script start c →
+    told (sight_over script start) (start_of script c) ≡ begun start
 begins-as script start c is =
-    ap (λ version. told_by version (states.start c.path c.min c.max c.has)) (sight-version script start.has)
+    let s : State = states.start c.path c.min c.max c.has in
+    let letters : List ℕ = letters_of_chains script (chains_of c) in
+    ap (λ (t : State). told (sight_over script start) t)
+    (ap (λ version. began version letters (chains_of c) s) is.version ∙ began-without start.has letters (chains_of c) s)
+    ∙ ap (λ version. told_by version (states.start c.path c.min c.max c.has)) (sight-version script start.has)
     ∙ ap (λ path. told_by (version_of start.has) (states.start path c.min c.max c.has)) is.path
     ∙ ap (λ min. told_by (version_of start.has) (states.start start.path min c.max c.has)) is.min
     ∙ ap (λ max. told_by (version_of start.has) (states.start start.path start.min max c.has)) is.max
@@ -121,9 +141,14 @@ accepted k script start c is counts =
     let all : All Holds (checks_from w c.writes end 1 s xs c.notes) =
     notes-hold k w Holds (λ check e. e) c.writes end 1 s xs c.notes is.notes paths
     (end-holds k quit script.fault c (1 + length xs) t is.last (subst (λ (u : State). end_fault quit script.fault u ≡ None) is.last is.end) fewest most) in
-    let begins : All Holds (checks_from w c.writes end 1 (told w (states.start c.path c.min c.max c.has)) xs c.notes) =
+    let begins : All Holds (checks_from w c.writes end 1 (told w (start_of script c)) xs c.notes) =
     subst (λ (u : State). All Holds (checks_from w c.writes end 1 u xs c.notes)) (sym (begins-as script start c is)) all in
-    let seen : All Holds (checks_from (seen_by script c) c.writes end 1 (told (seen_by script c) (states.start c.path c.min c.max c.has)) xs c.notes) =
-    subst (λ (v : Sight). All Holds (checks_from v c.writes end 1 (told v (states.start c.path c.min c.max c.has)) xs c.notes)) (sym (sight-asked script start c is)) begins in
-    all-accepted (at 0 (are_shaped xs c.notes) ∷ checks_from (seen_by script c) c.writes end 1 (told (seen_by script c) (states.start c.path c.min c.max c.has)) xs c.notes)
-    (holds-at (are_shaped xs c.notes) 0 (checks_from (seen_by script c) c.writes end 1 (told (seen_by script c) (states.start c.path c.min c.max c.has)) xs c.notes) (shaped w xs s c.notes is.notes) seen)
+    let seen : All Holds (checks_from (seen_by script c) c.writes end 1 (told (seen_by script c) (start_of script c)) xs c.notes) =
+    subst (λ (v : Sight). All Holds (checks_from v c.writes end 1 (told v (start_of script c)) xs c.notes)) (sym (sight-asked script start c is)) begins in
+    let later : List Check = checks_from (seen_by script c) c.writes end 1 (told (seen_by script c) (start_of script c)) xs c.notes in
+    let lettered : has_letters script (chains_of c) ≡ true =
+    subst (λ (v : Version). has_letters script (stated_chains v c.landmarks) ≡ true) (sym is.version)
+    (no_letters-asked script start.has c.landmarks) in
+    all-accepted (at 0 (are_shaped xs c.notes) ∷ at 0 (has_letters script (chains_of c)) ∷ later)
+    (holds-at (are_shaped xs c.notes) 0 (at 0 (has_letters script (chains_of c)) ∷ later) (shaped w xs s c.notes is.notes)
+    (holds-at (has_letters script (chains_of c)) 0 later lettered seen))

@@ -230,7 +230,7 @@ certificate-once script start one other h k =
     (λ p m. (k.writes.just p).1 (subst (λ (cs : List Choice). Contains cs (Some p)) paths ((h.writes.just p).0 m)))
     (λ p m. (h.writes.just p).1 (subst (λ (cs : List Choice). Contains cs (Some p)) (sym paths) ((k.writes.just p).0 m))) in
     certificate-by one other (h.version ∙ sym k.version) (h.path ∙ sym k.path) (h.min ∙ sym k.min) (h.max ∙ sym k.max)
-    (h.has ∙ sym k.has) notes last
+    (h.has ∙ sym k.has) (h.landmarks ∙ sym k.landmarks) notes last
     (h.low ∙ ap (λ (s : State). low_of (least s.zone 2 0)) last ∙ sym k.low)
     (h.high ∙ ap (λ (s : State). high_of (greatest s.zone 2 0)) last ∙ sym k.high) writes
 

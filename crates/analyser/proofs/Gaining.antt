@@ -43,6 +43,7 @@ module _ (texts : List (List ℕ)) where
   among-told_by : (v : Version) (s : State) → Among texts s → Among texts (told_by v s)
   among-told_by version.One s h = (refl, refl)
   among-told_by version.Two s h = h
+  among-told_by version.Three s h = h
 
   pub among-told : (w : Sight) (s : State) → Among texts s → Among texts (told w s)
   among-told w s h = among-told_by w.version s h

@@ -94,6 +94,7 @@ module _ (patterns names : List Choice) where
 within-told_by : (patterns names : List Choice) (v : Version) (s : State) → Within patterns names s → Within patterns names (told_by v s)
 within-told_by patterns names version.One s q = q
 within-told_by patterns names version.Two s q = q
+within-told_by patterns names version.Three s q = q
 
 pub within-told : (patterns names : List Choice) (w : Sight) (s : State) → Within patterns names s → Within patterns names (told w s)
 within-told patterns names w s q = within-told_by patterns names w.version s q

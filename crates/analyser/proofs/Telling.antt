@@ -19,7 +19,6 @@ use Rattle.ed_rules.specs.facts.Facts.{Facts, no_facts}
 use Rattle.ed_rules.specs.facts.FactOrder.{both_facts}
 use Rattle.zones.specs.Zone.{Bounds}
 use Rattle.zones.specs.Steps.{join_of, widening_of}
-use Rattle.cert_check.specs.text.HasText.{OldSaysNothing}
 use Rattle.ed_rules.specs.Rules.{step}
 use Rattle.ed_rules.specs.Globals.{body_entry, loop_end}
 use Rattle.ed_rules.specs.Formed.{ChoiceIsBytes, OldIsFormed, OldIsLow, IsOfLines, IsFormed, IsEnded, TextsAreFormed, MatchesAreFormed, VerbIsBytes, TextsAreBytes}
@@ -72,6 +71,11 @@ lines-without : (was : Option Old) (has : List (List ℕ)) → IsOfLines was has
 lines-without None has h = h
 lines-without (Some old) has h = h
 
+-- nothing is said of single lines of an earlier buffer
+abbrev pub OldSaysNothing : Option Old → Type 0
+OldSaysNothing None = Unit {0}
+OldSaysNothing (Some old) = old.facts ≡ no_facts
+
 nothing-without : (was : Option Old) → OldSaysNothing (old_without_facts was)
 nothing-without None = tt
 nothing-without (Some old) = refl
@@ -94,6 +98,7 @@ formed-less s m h = record {
 formed-told_by : (v : Version) (s : State) → IsFormed s → IsFormed (told_by v s)
 formed-told_by version.One s h = formed-less s no_matches h
 formed-told_by version.Two s h = formed-less s s.matches h
+formed-told_by version.Three s h = h
 
 formed-told : (w : Sight) (s : State) → IsFormed s → IsFormed (told w s)
 formed-told w s h = formed-told_by w.version s h
@@ -101,26 +106,35 @@ formed-told w s h = formed-told_by w.version s h
 ended-told_by : (v : Version) (s : State) → IsEnded s → IsEnded (told_by v s)
 ended-told_by version.One s h = record { formed = formed-told_by version.One s h.formed; counted = h.counted }
 ended-told_by version.Two s h = record { formed = formed-told_by version.Two s h.formed; counted = h.counted }
+ended-told_by version.Three s h = h
 
 ended-told : (w : Sight) (s : State) → IsEnded s → IsEnded (told w s)
 ended-told w s h = ended-told_by w.version s h
 
--- version one says nothing of matches; what version two says is formed
+-- version one says nothing of matches; what later ones say is formed
 abbrev pub SaysAsTold : Version → State → Type 0
 SaysAsTold version.One s = s.matches ≡ no_matches
 SaysAsTold version.Two s = MatchesAreFormed s
+SaysAsTold version.Three s = MatchesAreFormed s
 
--- no version follows single lines or says anything of them
+-- single lines aren't followed, and nothing is said of them
 pub record SaysNothing (s : State) : Type 0 where
   pub follows : s.follows ≡ false
   pub facts : s.facts ≡ no_facts
   pub old_facts : OldSaysNothing s.undo.was
 
-nothing-told_by : (v : Version) (s : State) → SaysNothing (told_by v s)
+-- so it is before version three, of which nothing is asked here
+abbrev pub SaysNothingIn : Version → State → Type 0
+SaysNothingIn version.One s = SaysNothing s
+SaysNothingIn version.Two s = SaysNothing s
+SaysNothingIn version.Three s = Unit {0}
+
+nothing-told_by : (v : Version) (s : State) → SaysNothingIn v (told_by v s)
 nothing-told_by version.One s = record { follows = refl; facts = refl; old_facts = nothing-without s.undo.was }
 nothing-told_by version.Two s = record { follows = refl; facts = refl; old_facts = nothing-without s.undo.was }
+nothing-told_by version.Three s = tt
 
-nothing-told : (w : Sight) (s : State) → SaysNothing (told w s)
+nothing-told : (w : Sight) (s : State) → SaysNothingIn w.version (told w s)
 nothing-told w s = nothing-told_by w.version s
 
 old-nothing : (one other : Option Old) → OldSaysNothing one → OldSaysNothing other → OldSaysNothing (old_of_both one other)
@@ -135,30 +149,40 @@ nothing-united one other zone h k = record {
   old_facts = old-nothing one.undo.was other.undo.was h.old_facts k.old_facts;
 }
 
-nothing-join : (one other : State) → SaysNothing one → SaysNothing other → SaysNothing (join one other)
-unfolding join
-nothing-join one other h k = nothing-united one other (join_of one.zone other.zone) h k
+nothing-united_in : (v : Version) (one other : State) (zone : Bounds) → SaysNothingIn v one → SaysNothingIn v other →
+    SaysNothingIn v (united one other zone)
+nothing-united_in version.One one other zone h k = nothing-united one other zone h k
+nothing-united_in version.Two one other zone h k = nothing-united one other zone h k
+nothing-united_in version.Three one other zone h k = tt
 
-nothing-widen : (one other : State) → SaysNothing one → SaysNothing other → SaysNothing (widen one other)
+nothing-join : (v : Version) (one other : State) → SaysNothingIn v one → SaysNothingIn v other → SaysNothingIn v (join one other)
+unfolding join
+nothing-join v one other h k = nothing-united_in v one other (join_of one.zone other.zone) h k
+
+nothing-widen : (v : Version) (one other : State) → SaysNothingIn v one → SaysNothingIn v other → SaysNothingIn v (widen one other)
 unfolding widen
-nothing-widen one other h k = nothing-united one other (widening_of one.zone other.zone) h k
+nothing-widen v one other h k = nothing-united_in v one other (widening_of one.zone other.zone) h k
 
 -- what is asked of a result before it is told
 abbrev MayBeTold : Version → State → Type 0
 MayBeTold version.One s = Unit {0}
 MayBeTold version.Two s = MatchesAreFormed s
+MayBeTold version.Three s = MatchesAreFormed s
 
 abbrev WatchIsFormed : Version → (watch : List (List ℕ)) → Type 0
 WatchIsFormed version.One watch = Unit {0}
 WatchIsFormed version.Two watch = TextsAreFormed watch
+WatchIsFormed version.Three watch = TextsAreFormed watch
 
 says-told : (v : Version) (s : State) → MayBeTold v s → SaysAsTold v (told_by v s)
 says-told version.One s h = refl
 says-told version.Two s h = record { has = h.has; old_has = h.old_has; of_lines = lines-without s.undo.was s.matches.old_has h.of_lines }
+says-told version.Three s h = h
 
 may-told : (v : Version) (s : State) → SaysAsTold v s → MayBeTold v s
 may-told version.One s h = tt
 may-told version.Two s h = h
+may-told version.Three s h = h
 
 none-both : (one other : Option Old) → matches_of_both one other no_matches no_matches ≡ no_matches
 none-both None other = refl
@@ -173,11 +197,13 @@ says-join : MatchLaws → (v : Version) (one other : State) → SaysAsTold v one
 unfolding join
 says-join k version.One one other h q = none-of one.undo.was other.undo.was one.matches other.matches h q
 says-join k version.Two one other h q = k.join one other h q
+says-join k version.Three one other h q = k.join one other h q
 
 says-widen : MatchLaws → (v : Version) (one other : State) → SaysAsTold v one → SaysAsTold v other → SaysAsTold v (widen one other)
 unfolding widen
 says-widen k version.One one other h q = none-of one.undo.was other.undo.was one.matches other.matches h q
 says-widen k version.Two one other h q = k.widen one other h q
+says-widen k version.Three one other h q = k.widen one other h q
 
 may-step : MatchLaws → (v : Version) (watch : List (List ℕ)) (c : Command) (s : State) → WatchIsFormed v watch → SaysAsTold v s → IfOk (step watch c s) (MayBeTold v)
 may-step k version.One watch c s g h = always (step watch c s)
@@ -186,26 +212,29 @@ may-step k version.One watch c s g h = always (step watch c s)
     always (Ok t) = tt
     always (Err f) = tt
 may-step k version.Two watch c s g h = k.command watch c s g h
+may-step k version.Three watch c s g h = k.command watch c s g h
 
 may-entry : MatchLaws → (v : Version) (verb : Verb) (invariant : State) → VerbIsBytes verb → SaysAsTold v invariant → MayBeTold v (body_entry verb invariant)
 may-entry k version.One verb invariant b h = tt
 may-entry k version.Two verb invariant b h = k.entry verb invariant b h
+may-entry k version.Three verb invariant b h = k.entry verb invariant b h
 
 may-end : MatchLaws → (v : Version) (x : Step) (before invariant : State) → SaysAsTold v before → SaysAsTold v invariant → MayBeTold v (loop_end x before invariant)
 may-end k version.One x before invariant h q = tt
 may-end k version.Two x before invariant h q = k.end x before invariant h q
+may-end k version.Three x before invariant h q = k.end x before invariant h q
 
 -- WHAT IS KNOWN of a state, and of one at the start or at a rule's end
 
 pub record Holds (v : Version) (s : State) : Type 0 where
   pub formed : IsFormed s
   pub says : SaysAsTold v s
-  pub nothing : SaysNothing s
+  pub nothing : SaysNothingIn v s
 
 pub record HoldsAtEnd (v : Version) (s : State) : Type 0 where
   pub ended : IsEnded s
   pub says : SaysAsTold v s
-  pub nothing : SaysNothing s
+  pub nothing : SaysNothingIn v s
 
 holds-at_end : (v : Version) (s : State) → HoldsAtEnd v s → Holds v s
 holds-at_end v s h = record { formed = h.ended.formed; says = h.says; nothing = h.nothing }
@@ -270,12 +299,12 @@ module _ (k : Laws) (m : MatchLaws) (w : Sight) (watch : WatchIsFormed w.version
       (record {
         formed = k.join _ _ before.formed after.formed;
         says = says-join m w.version _ _ before.says after.says;
-        nothing = nothing-join _ _ before.nothing after.nothing;
+        nothing = nothing-join w.version _ _ before.nothing after.nothing;
       })
       (record {
         formed = k.widen _ _ before.formed after.formed;
         says = says-widen m w.version _ _ before.says after.says;
-        nothing = nothing-widen _ _ before.nothing after.nothing;
+        nothing = nothing-widen w.version _ _ before.nothing after.nothing;
       })
 
   inner-hold : (cs : List Command) (s : State) (ts : List State) → All TextsAreBytes cs → Holds w.version s → AreInner w cs s ts → All (Holds w.version) ts
@@ -337,9 +366,11 @@ unfolding states.start
 begun-says k None path min max h = refl
 begun-says k (Some has) path min max h = k.start path min max has h
 
-begun-nothing : (path : Choice) (min : ℕ) (max : Option ℕ) (has : List (List ℕ)) → SaysNothing (states.start path min max has)
+begun-nothing : (has : Option (List (List ℕ))) (path : Choice) (min : ℕ) (max : Option ℕ) →
+    SaysNothingIn (version_of has) (states.start path min max (stated_of has))
 unfolding states.start
-begun-nothing path min max has = record { follows = refl; facts = refl; old_facts = tt }
+begun-nothing None path min max = record { follows = refl; facts = refl; old_facts = tt }
+begun-nothing (Some has) path min max = record { follows = refl; facts = refl; old_facts = tt }
 
 watch-formed : MatchLaws → (script : Script) (has : Option (List (List ℕ))) → All StepIsBytes script.steps → TextsAreFormed (stated_of has) →
     WatchIsFormed (sight_of script (version_of has) (stated_of has)).version (sight_of script (version_of has) (stated_of has)).watch
@@ -357,7 +388,7 @@ script-holds k m script start notes bytes path has h =
     record {
       ended = k.start start.path start.min start.max (stated_of start.has) path;
       says = begun-says m start.has start.path start.min start.max has;
-      nothing = begun-nothing start.path start.min start.max (stated_of start.has);
+      nothing = begun-nothing start.has start.path start.min start.max;
     } in
     subst (λ (v : Version). All (NoteHolds v) notes × HoldsAtEnd v (result_from w (counted script.steps) (begun start) notes)) same
     (notes-hold k m w (watch-formed m script start.has bytes has) (counted script.steps) (begun start) notes (counted-bytes script.steps bytes)

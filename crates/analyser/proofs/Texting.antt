@@ -21,12 +21,13 @@ use Rattle.ed_rules.specs.LineBounds.{IsAtMost, is_few, is_limit, is_within}
 use Rattle.cert_check.specs.declared.certificate.Version.{Version}
 use Rattle.cert_check.specs.declared.certificate.Version.TheVariants as version
 use Rattle.cert_check.specs.Certificates.{Looped, Note, Certificate}
-use Rattle.cert_check.specs.text.HasText.{IsSaidIn, OldIsSaidIn, AreSaidIn, StateHasText, LoopedHasText, NoteHasText, HasText}
+use Rattle.landmarks.specs.ChainValues.{ChainValue}
+use Rattle.cert_check.specs.text.HasText.{IsSaidIn, OldIsSaidIn, AreSaidIn, OldIsToldIn, does_follow, StateHasText, ChainsHaveText, LoopedHasText, NoteHasText, HasText}
 use Rattle.analyser.specs.declared.analysis.Start.{Start}
 use Rattle.analyser.specs.Following.{version_of, stated_of}
 use Rattle.analyser.specs.Analysis.{most_lines, low_of, high_of, IsCertificate}
 use Rattle.analyser.specs.Walking.{StepIsBytes}
-use Rattle.analyser.proofs.Telling.{Laws, MatchLaws, Holds, LoopedHolds, NoteHolds, script-holds}
+use Rattle.analyser.proofs.Telling.{OldSaysNothing, Laws, MatchLaws, Holds, LoopedHolds, NoteHolds, script-holds}
 
 -- BOUNDS AND PATHS
 
@@ -70,39 +71,59 @@ old-said : (was : Option Old) (has : List (List ℕ)) → TextsAreFormed has →
 old-said None has h lines = lines
 old-said (Some old) has h lines = h
 
-text-of_state : (v : Version) (s : State) → Holds v s → StateHasText v s
-text-of_state version.One s h = record {
+old-untold_in_one : (was : Option Old) → OldSaysNothing was → OldIsToldIn version.One was
+old-untold_in_one None h = tt
+old-untold_in_one (Some old) h = h
+
+old-untold_in_two : (was : Option Old) → OldSaysNothing was → OldIsToldIn version.Two was
+old-untold_in_two None h = tt
+old-untold_in_two (Some old) h = h
+
+-- versions before the third say nothing of single lines
+text-of_state : (v : Version) → does_follow v ≡ false → (s : State) → Holds v s → StateHasText v s
+text-of_state version.One early s h = record {
   formed = h.formed.formed;
   matches = subst (λ (m : Matches). AreSaidIn version.One s.undo.was m) (sym h.says) (none-said s.undo.was);
   follows = h.nothing.follows;
   facts = h.nothing.facts;
-  old_facts = h.nothing.old_facts;
+  old_facts = old-untold_in_one s.undo.was h.nothing.old_facts;
 }
-text-of_state version.Two s h = record {
+text-of_state version.Two early s h = record {
   formed = h.formed.formed;
   matches = (h.says.has, old-said s.undo.was s.matches.old_has h.says.old_has h.says.of_lines);
   follows = h.nothing.follows;
   facts = h.nothing.facts;
-  old_facts = h.nothing.old_facts;
+  old_facts = old-untold_in_two s.undo.was h.nothing.old_facts;
 }
+text-of_state version.Three early s h = absurd cc
 
-texts-of_states : (v : Version) (ss : List State) → All (Holds v) ss → All (StateHasText v) ss
-texts-of_states v [] h = All-nil (StateHasText v)
-texts-of_states v (s ∷ ss) h = All-cons (StateHasText v) s ss (text-of_state v s (All-head (Holds v) s ss h)) (texts-of_states v ss (All-tail (Holds v) s ss h))
+texts-of_states : (v : Version) → does_follow v ≡ false → (ss : List State) → All (Holds v) ss → All (StateHasText v) ss
+texts-of_states v early [] h = All-nil (StateHasText v)
+texts-of_states v early (s ∷ ss) h =
+    All-cons (StateHasText v) s ss (text-of_state v early s (All-head (Holds v) s ss h)) (texts-of_states v early ss (All-tail (Holds v) s ss h))
 
-text-of_looped : (v : Version) (l : Option Looped) → LoopedHolds v l → LoopedHasText v l
-text-of_looped v None h = tt
-text-of_looped v (Some l) h = (text-of_state v l.invariant h.0, texts-of_states v l.inner h.1)
+text-of_looped : (v : Version) → does_follow v ≡ false → (l : Option Looped) → LoopedHolds v l → LoopedHasText v l
+text-of_looped v early None h = tt
+text-of_looped v early (Some l) h = (text-of_state v early l.invariant h.0, texts-of_states v early l.inner h.1)
 
-texts-of_notes : (v : Version) (ns : List Note) → All (NoteHolds v) ns → All (NoteHasText v) ns
-texts-of_notes v [] h = All-nil (NoteHasText v)
-texts-of_notes v (n ∷ ns) h =
+texts-of_notes : (v : Version) → does_follow v ≡ false → (ns : List Note) → All (NoteHolds v) ns → All (NoteHasText v) ns
+texts-of_notes v early [] h = All-nil (NoteHasText v)
+texts-of_notes v early (n ∷ ns) h =
     let here = All-head (NoteHolds v) n ns h in
-    All-cons (NoteHasText v) n ns (text-of_state v n.state here.0, text-of_looped v n.looped here.1) (texts-of_notes v ns (All-tail (NoteHolds v) n ns h))
+    All-cons (NoteHasText v) n ns (text-of_state v early n.state here.0, text-of_looped v early n.looped here.1) (texts-of_notes v early ns (All-tail (NoteHolds v) n ns h))
 
 stated-said : (has : Option (List (List ℕ))) → TextsAreFormed (stated_of has) → IsSaidIn (version_of has) (stated_of has)
 stated-said None h = refl
 stated-said (Some has) h = h
+
+-- whether patterns are stated or not, it is a version before the third
+early : (has : Option (List (List ℕ))) → does_follow (version_of has) ≡ false
+early None = refl
+early (Some has) = refl
+
+no_chains-said : (has : Option (List (List ℕ))) → ChainsHaveText (version_of has) []
+no_chains-said None = refl
+no_chains-said (Some has) = refl
 
 -- THE CERTIFICATE
 
@@ -125,8 +146,11 @@ has-text k m script start c bytes path has paths ordered low high is =
       has =
           subst (λ (v : Version). IsSaidIn v c.has) (sym is.version)
           (subst (λ (stated : List (List ℕ)). IsSaidIn (version_of start.has) stated) (sym is.has) (stated-said start.has has));
-      notes = subst (λ (v : Version). All (NoteHasText v) c.notes) (sym is.version) (texts-of_notes (version_of start.has) c.notes known.0);
-      last = subst (λ (v : Version). StateHasText v c.last) (sym is.version) (text-of_state (version_of start.has) c.last last);
+      landmarks =
+          subst (λ (v : Version). ChainsHaveText v c.landmarks) (sym is.version)
+          (subst (λ (chains : List ChainValue). ChainsHaveText (version_of start.has) chains) (sym is.landmarks) (no_chains-said start.has));
+      notes = subst (λ (v : Version). All (NoteHasText v) c.notes) (sym is.version) (texts-of_notes (version_of start.has) (early start.has) c.notes known.0);
+      last = subst (λ (v : Version). StateHasText v c.last) (sym is.version) (text-of_state (version_of start.has) (early start.has) c.last last);
       final =
           and_from (is_few c.low) (is_limit c.high) (subst (λ (n : ℕ). is_few n ≡ true) (sym is.low) (low-few (least c.last.zone 2 0)))
           (subst (λ (most : Option ℕ). is_limit most ≡ true) (sym is.high) (high-limit (greatest c.last.zone 2 0)));

@@ -37,9 +37,10 @@ use Rattle.cert_check.specs.declared.certificate.Version.{Version}
 use Rattle.cert_check.specs.declared.certificate.Version.TheVariants as version
 use Rattle.cert_check.specs.declared.sight.Sight.{Sight}
 use Rattle.cert_check.specs.Certificates.{Looped, Note}
-use Rattle.cert_check.specs.checker.Valid.{counted, told_by, told, are_met, left_by, left_after}
+use Rattle.cert_check.specs.checker.Valid.{sight_of, counted, told_by, told, are_met, left_by, left_after}
+use Rattle.cert_check.specs.text.HasText.{does_follow}
 use Rattle.analyser.specs.declared.analysis.Start.{Start}
-use Rattle.analyser.specs.Following.{IsKnownOfList, AreNotes, sight_over, begun, stated_of}
+use Rattle.analyser.specs.Following.{IsKnownOfList, AreNotes, version_of, sight_over, begun, stated_of}
 use Rattle.analyser.specs.Judged.{IsVouched}
 use Rattle.analyser.proofs.Going.{counted_from, counted-here, later, later-on}
 use Rattle.analyser.specs.Wanted.{seeks_at, seeks_first, enters_match, brings_none, seeks}
@@ -119,6 +120,7 @@ module _ (text : List ℕ) where
   lacks-told_by : (v : Version) (s : State) → Says (Lacks text) s → Says (Lacks text) (told_by v s)
   lacks-told_by version.One s h = (refl, refl)
   lacks-told_by version.Two s h = h
+  lacks-told_by version.Three s h = h
 
   left-lacks : (w : Sight) (s : State) (r : Result State Fault) → Says (Lacks text) s → IfOk r (Says (Lacks text)) →
       Says (Lacks text) (told w (elim r as (λ _. State) [ Ok t ↦ t | Err f ↦ s ]))
@@ -213,24 +215,26 @@ module _ (text : List ℕ) where
 
   -- COMMANDS WITH THEIR NOTES
 
-  -- no version follows single lines
-  told-plain : (v : Version) (s : State) → (told_by v s).follows ≡ false
-  told-plain version.One s = refl
-  told-plain version.Two s = refl
+  -- versions before the third follow no single lines
+  told-plain : (v : Version) (s : State) → does_follow v ≡ false → (told_by v s).follows ≡ false
+  told-plain version.One s early = refl
+  told-plain version.Two s early = refl
+  told-plain version.Three s early = absurd cc
 
-  left-plain : (w : Sight) (c : Command) (s : State) → (left_by w c s).follows ≡ false
+  left-plain : (w : Sight) (c : Command) (s : State) → does_follow w.version ≡ false → (left_by w c s).follows ≡ false
   unfolding left_by
-  left-plain w c s = told-plain w.version _
+  left-plain w c s early = told-plain w.version _ early
 
-  after-plain : (w : Sight) (l : Option Looped) (x : Step) (s : State) → (left_after w l x s).follows ≡ false
-  after-plain w None x s = left-plain w x.command s
-  after-plain w (Some l) x s = told-plain w.version _
+  after-plain : (w : Sight) (l : Option Looped) (x : Step) (s : State) → does_follow w.version ≡ false →
+      (left_after w l x s).follows ≡ false
+  after-plain w None x s early = left-plain w x.command s early
+  after-plain w (Some l) x s early = told-plain w.version _ early
 
-  pub unwanted : (w : Sight) (xs : List Step) (s : State) (ns : List Note) → text_is_always text ≡ false → seeks text xs ≡ true →
+  pub unwanted : (w : Sight) → does_follow w.version ≡ false → (xs : List Step) (s : State) (ns : List Note) → text_is_always text ≡ false → seeks text xs ≡ true →
       Says (Lacks text) s → s.follows ≡ false → AreNotes w xs s ns → ⊥
-  unwanted w [] s ns never e h plain notes = absurd cc
-  unwanted w (x ∷ xs) s [] never e h plain notes = absurd notes
-  unwanted w (x ∷ xs) s (n ∷ ns) never e h plain notes =
+  unwanted w early [] s ns never e h plain notes = absurd cc
+  unwanted w early (x ∷ xs) s [] never e h plain notes = absurd notes
+  unwanted w early (x ∷ xs) s (n ∷ ns) never e h plain notes =
       elim (or_cases (seeks_first text x.command.addresses) (brings_none text x && seeks text xs) e) [
         | inl here ↦
             let failed = unmet x.command s here never plain (lacks-none text s.matches.has h.0) in
@@ -239,10 +243,10 @@ module _ (text : List ℕ) where
         | inr later ↦
             let parts = and_parts (brings_none text x) (seeks text xs) later in
             let brings = and_parts (not (is_global x.command.verb)) (not (enters_match text (takes x.command.verb).lines)) parts.0 in
-            unwanted w xs (left_after w n.looped x s) ns never parts.1
+            unwanted w early xs (left_after w n.looped x s) ns never parts.1
             (lacks-left_after w n.looped x s (not-true (is_global x.command.verb) brings.0) notes.0.list
             (not-true (enters_match text (takes x.command.verb).lines) brings.1) h)
-            (after-plain w n.looped x s) notes.1
+            (after-plain w n.looped x s early) notes.1
       ]
 
 begun-lacks : (text : List ℕ) (start : Start) → is_member (stated_of start.has) text ≡ false → Says (Lacks text) (begun start)
@@ -253,11 +257,16 @@ begun-plain : (start : Start) → (begun start).follows ≡ false
 unfolding states.start
 begun-plain start = refl
 
+early-sight : (script : Script) (has : Option (List (List ℕ))) →
+    does_follow (sight_of script (version_of has) (stated_of has)).version ≡ false
+early-sight script None = refl
+early-sight script (Some has) = refl
+
 -- a script isn't vouched for over a start without the pattern
 pub wanted : (text : List ℕ) (script : Script) (start : Start) → text_is_always text ≡ false → seeks text (counted script.steps) ≡ true →
     is_member (stated_of start.has) text ≡ false → IsVouched script start → ⊥
 wanted text script start never e none v =
-    unwanted text (sight_over script start) (counted script.steps) (begun start) v.0.notes never e (begun-lacks text start none) (begun-plain start) v.1.notes
+    unwanted text (sight_over script start) (early-sight script start.has) (counted script.steps) (begun start) v.0.notes never e (begun-lacks text start none) (begun-plain start) v.1.notes
 
 -- ONE COMMAND FURTHER
 

@@ -1,5 +1,5 @@
 -- What the analyser answers: a certificate just where no need fails, else the first need that fails.
-use Rattle.std.specs.Prelude.{◌≡◌, ◌↔◌, ◌⊎◌, ℕ, ◌+◌, ℤ, pos, negsuc, List, map, length, Option, Some, None, min, nat_lt, if◌then◌else◌}
+use Rattle.std.specs.Prelude.{◌≡◌, ◌↔◌, ◌⊎◌, ℕ, ◌+◌, ℤ, pos, negsuc, List, [], map, length, Option, Some, None, min, nat_lt, if◌then◌else◌}
 use Rattle.std.specs.List.{Contains}
 use Rattle.std.specs.List.Sorted.{IsStrictlySortedBy}
 use Rattle.std.specs.Ordering.{nat_cmp}
@@ -45,6 +45,7 @@ pub record IsCertificate (script : Script) (start : Start) (c : Certificate) : T
   pub min : c.min ≡ start.min
   pub max : c.max ≡ start.max
   pub has : c.has ≡ stated_of start.has
+  pub landmarks : c.landmarks ≡ []
   pub notes : AreNotes (sight_over script start) (counted script.steps) (begun start) c.notes
   pub last : c.last ≡ result_from (sight_over script start) (counted script.steps) (begun start) c.notes
   pub end : end_fault (has_quit script.steps) script.fault c.last ≡ None

@@ -126,6 +126,7 @@ fn answer(script: &Script, start: Start, walk: Walk) -> Analysis
                 min: start.min,
                 max: start.max,
                 has: stated_of(*script.commands.allocator(), start.has),
+                landmarks: Vec::new(*script.commands.allocator()),
                 notes,
                 low: low_of(&last.zone()),
                 high: high_of(&last.zone()),

@@ -17,6 +17,7 @@ pub mod ReadWords
 pub mod ReadSets
 pub mod ReadNamed
 pub mod ReadFacts
+pub mod ReadChains
 pub mod ReadLines
 pub mod ReadLetters
 pub mod ReadZone

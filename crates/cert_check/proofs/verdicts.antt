@@ -7,7 +7,9 @@ pub mod Turning
 pub mod Stepping
 pub mod Starting
 pub mod Counting
+pub mod Lettering
 pub mod Judging
 pub mod Covering
 pub mod Opening
 pub mod MarkedOpening
+pub mod Beginning

@@ -1,6 +1,7 @@
 -- What a certificate says, apart from where it lies in memory.
 use Rattle.std.specs.Prelude.{ℕ, List, map, Option, option_map}
 use Rattle.std.specs.Global.{Box}
+use Rattle.landmarks.specs.ChainValues.{ChainValue}
 use Rattle.ed_rules.specs.declared.state.State.{State}
 use Rattle.cert_check.specs.declared.certificate.Version.{Version}
 use Rattle.cert_check.specs.declared.certificate.Looped as looped
@@ -17,8 +18,8 @@ pub record Note : Type 0 where
   pub state : State
   pub looped : Option Looped
 
--- The version, which says whether anything is told of what lines match. The path that the run starts with, how many lines the start may
--- have, and which patterns some of them match. A note for each counted command, of what is known before it. What is known at the end, and
+-- The version, which says what is told of lines. The path that the run starts with, how many lines the start may have, which patterns some
+-- of them match, and the chains of landmarks that it has. A note for each counted command, of what is known before it. What is known at the end, and
 -- how many lines there may be then. The paths that may be written.
 pub record Certificate : Type 0 where
   pub version : Version
@@ -26,6 +27,7 @@ pub record Certificate : Type 0 where
   pub min : ℕ
   pub max : Option ℕ
   pub has : List (List ℕ)
+  pub landmarks : List ChainValue
   pub notes : List Note
   pub last : State
   pub low : ℕ
@@ -51,6 +53,7 @@ certificate_value c = record {
   min = c.min;
   max = c.max;
   has = c.has;
+  landmarks = c.landmarks.items;
   notes = map note_value c.notes.items;
   last = c.last;
   low = c.low;

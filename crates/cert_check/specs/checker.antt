@@ -1,5 +1,6 @@
 -- What the checker judges by, and what its verdict means, in the order of reading.
 pub mod Covering
+pub mod Beginning
 pub mod Valid
 pub mod Opening
 pub mod Sound

@@ -1,7 +1,7 @@
 -- The text of a certificate, in the order of reading.
 pub mod Text
-pub mod HasText
 pub mod FactsText
+pub mod HasText
 pub mod Faults
 pub mod Wanted
 -- what only serves clauses inside the crate

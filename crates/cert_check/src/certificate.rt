@@ -2,6 +2,7 @@
 
 use ed_base::Bytes;
 use ed_rules::{KeptState, Texts};
+use landmarks::LandmarkChain;
 
 /// What is known of a global command's list: at its start for each line, and before each of its commands.
 #[derive(Debug, Drop)]
@@ -20,13 +21,15 @@ pub struct Note {
     pub looped: Option<Box<Looped>>,
 }
 
-/// The version of a certificate: whether it tells anything of what lines match.
+/// The version of a certificate: what it tells of lines beside their number.
 #[derive(Clone, Copy, PartialEq, Eq, Debug)]
 pub enum Version {
     /// It tells nothing.
     One,
     /// It tells of patterns that some line matches.
     Two,
+    /// It tells of them, names lines of the start, and tells of single lines what they match.
+    Three,
 }
 
 /// What a certificate says: the file that a run starts with, how long it may be and what some of its lines match, what is known before
@@ -42,6 +45,8 @@ pub struct Certificate {
     pub max: Option<u64>,
     /// The patterns that some line of the start matches; in version 1 they don't count.
     pub has: Texts,
+    /// Chains of landmarks that the start has; in versions 1 and 2 they don't count.
+    pub landmarks: Vec<LandmarkChain>,
     /// One for each counted command, in their order.
     pub notes: Vec<Note>,
     /// What is known at the end.

@@ -9,10 +9,12 @@ ghost use Rattle.cert_check.specs.checker.Sound.{CannotFail};
 
 pub(crate) mod loops;
 pub(crate) mod passing;
+pub(crate) mod starting;
 pub(crate) mod verdict;
 
 use crate::certificate::Certificate;
 use crate::checker::passing::{are_shaped, count, ends_well, go_through};
+use crate::checker::starting::start_of;
 use crate::checker::verdict::{Place, Verdict};
 use crate::laws::accepted_scripts_cannot_fail;
 use crate::sight::Sight;
@@ -62,13 +64,9 @@ fn judge(script: &Script, certificate: &Certificate) -> Result<Verdict, AllocErr
     if !are_shaped(commands, counted.number, notes) {
         return Ok(verdict_at(0, false));
     }
-    let mut coming = State::start(
-        *script.commands.allocator(),
-        &certificate.path,
-        certificate.min,
-        certificate.max,
-        &certificate.has,
-    )?;
+    let Some(mut coming) = start_of(script, certificate)? else {
+        return Ok(verdict_at(0, false));
+    };
     let sight = Sight::of(script, certificate.version, &certificate.has)?;
     sight.tell(&mut coming);
     let mut before = coming.try_copy()?;

@@ -29,6 +29,7 @@ use ed_syntax::{
     commands_are_placed, files_have_lines, lists_add_no_flags, lists_note_changes,
     unnamed_letters_change_nothing,
 };
+use landmarks::landmarks_are_where_they_are_said;
 use zones::known_bounds_are_true;
 
 /// The test of covering says whether one state covers another.
@@ -64,6 +65,8 @@ pub fn accepted_scripts_cannot_fail()
         judged script c ≡ Accepted → CannotFail script c }
 {
     starts_are_sound();
+    landmarks_are_where_they_are_said();
+    marked_starts_stand();
     marked_starts_suffice();
 }
 

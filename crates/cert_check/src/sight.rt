@@ -24,7 +24,7 @@ impl Sight {
     {
         let watch = match version {
             Version::One => Watch::none(*script.commands.allocator()),
-            Version::Two => Watch::of(script, has)?,
+            Version::Two | Version::Three => Watch::of(script, has)?,
         };
         Ok(Sight { version, watch })
     }
@@ -36,15 +36,18 @@ impl Sight {
         &self.watch
     }
 
-    /// Leaves in a rule's state only what the version tells: what is known of single lines is forgotten and they aren't followed, and
-    /// in version 1 what lines match is forgotten too. It takes no memory.
+    /// Leaves in a rule's state only what the version tells: in versions 1 and 2 what is known of single lines is forgotten and they
+    /// aren't followed, and in version 1 what lines match is forgotten too. It takes no memory.
     pub fn tell(&self, state: &mut State)
         ensures value { state.new ≡ told self.now state.old }
     {
-        state.forget_facts();
         match self.version {
-            Version::One => state.forget_matches(),
-            Version::Two => {}
+            Version::One => {
+                state.forget_facts();
+                state.forget_matches();
+            }
+            Version::Two => state.forget_facts(),
+            Version::Three => {}
         }
     }
 }

@@ -1,9 +1,11 @@
 //! The text of a certificate, written and read.
 
 pub(crate) mod cursor;
+pub(crate) mod fact_lines;
 pub(crate) mod fact_reading;
 pub(crate) mod fact_writing;
 pub(crate) mod fault;
+pub(crate) mod formed_facts;
 pub(crate) mod has_text;
 pub(crate) mod kept;
 pub(crate) mod lines;

@@ -6,6 +6,7 @@ mod Gathering
 mod Joining
 mod Judgements
 mod KnownStates
+mod LandmarkedStarts
 mod Sayings
 mod StartTested
 mod StatedPatterns

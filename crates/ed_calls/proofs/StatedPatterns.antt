@@ -1,12 +1,13 @@
 -- The patterns that a start has to match, and the first that none of its lines does.
-use Rattle.std.proofs.Common.{◌≡◌, ℕ, Bool, true, false, List, [], ◌∷◌, length, Option, Some, None, refl, sym}
-use Rattle.std.specs.Prelude.{not, find, IfSome, IsSomeAnd}
+use Rattle.std.proofs.Common.{◌≡◌, ℕ, Bool, true, false, List, [], ◌∷◌, length, Option, Some, None, Result, Ok, Err, refl, sym}
+use Rattle.std.specs.Prelude.{not, find, IfOk, IfSome, IsSomeAnd, IsTrue, IsFalse}
 use Rattle.std.specs.List.{list_all, list_any}
 use Rattle.std.proofs.lemmas.Bool.{and_from, and_parts}
 use Rattle.ed_syntax.specs.meaning.Values.{matches}
 use Rattle.ed_rules.specs.LineBounds.{IsWithin}
 use Rattle.cert_check.specs.Certificates.{Certificate}
-use Rattle.cert_check.specs.checker.Sound.{IsAllowed, stated}
+use Rattle.cert_check.specs.checker.Beginning.{chains_of}
+use Rattle.cert_check.specs.checker.Sound.{IsAllowed, HaveLandmarks, stated}
 use Rattle.ed_calls.specs.Run.{LiesOutside}
 use Rattle.ed_calls.specs.StartTest.{unmatched_of}
 
@@ -42,7 +43,26 @@ pub outside_by_pattern : (c : Certificate) (lines : Option (List (List ℕ))) (t
 outside_by_pattern c None text found = cc
 outside_by_pattern c (Some lines) text found = λ allowed. one_fails (λ t. list_any (matches t) lines) (stated c) text (sym found) allowed.1
 
--- one that has as many lines as it may have, and one for each pattern
-pub inside_by_both : (c : Certificate) (lines : Option (List (List ℕ))) → IfSome lines (λ l. IsWithin c.min c.max (length l)) → None ≡ unmatched_of (stated c) lines → IfSome lines (IsAllowed c)
-inside_by_both c None within none = tt
-inside_by_both c (Some lines) within none = (within, all_pass (λ t. list_any (matches t) lines) (stated c) (sym none))
+-- one without the landmarks of a chain
+outside_by_landmark : (c : Certificate) (lines : Option (List (List ℕ))) → IsSomeAnd lines (λ l. HaveLandmarks l (chains_of c) → ⊥) → LiesOutside c lines
+outside_by_landmark c None missed = missed
+outside_by_landmark c (Some lines) missed = λ allowed. missed allowed.2
+
+pub outside_where_missed : {E : Type 0} (c : Certificate) (lines : Option (List (List ℕ))) (r : Result Bool E) →
+    IfOk r (λ outside. IsTrue outside → IsSomeAnd lines (λ l. HaveLandmarks l (chains_of c) → ⊥)) →
+    IfOk r (λ outside. IsTrue outside → LiesOutside c lines)
+outside_where_missed c lines (Ok outside) missed = λ t. outside_by_landmark c lines (missed t)
+outside_where_missed c lines (Err e) missed = tt
+
+-- one that has as many lines as it may have, one for each pattern, and each landmark
+inside_by_all : (c : Certificate) (lines : Option (List (List ℕ))) → IfSome lines (λ l. IsWithin c.min c.max (length l)) →
+    None ≡ unmatched_of (stated c) lines → IfSome lines (λ l. HaveLandmarks l (chains_of c)) → IfSome lines (IsAllowed c)
+inside_by_all c None within none placed = tt
+inside_by_all c (Some lines) within none placed = (within, all_pass (λ t. list_any (matches t) lines) (stated c) (sym none), placed)
+
+pub inside_where_placed : {E : Type 0} (c : Certificate) (lines : Option (List (List ℕ))) (r : Result Bool E) →
+    IfSome lines (λ l. IsWithin c.min c.max (length l)) → None ≡ unmatched_of (stated c) lines →
+    IfOk r (λ outside. IsFalse outside → IfSome lines (λ l. HaveLandmarks l (chains_of c))) →
+    IfOk r (λ outside. IsFalse outside → IfSome lines (IsAllowed c))
+inside_where_placed c lines (Ok outside) within none placed = λ f. inside_by_all c lines within none (placed f)
+inside_where_placed c lines (Err e) within none placed = tt

@@ -13,6 +13,7 @@ mod judging;
 mod known;
 mod laws;
 mod names;
+mod placed;
 mod running;
 mod starts;
 mod stated;

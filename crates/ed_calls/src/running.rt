@@ -6,11 +6,13 @@ ghost use Rattle.ed_session.specs.Drives.{added, EndsMissing};
 ghost use Rattle.ed_session.specs.Sinks.{change, Failed};
 ghost use Rattle.ed_rules.specs.LineBounds.{IsWithin};
 ghost use Rattle.cert_check.specs.Certificates.{certificate_value};
-ghost use Rattle.cert_check.specs.checker.Sound.{IsAllowed};
+ghost use Rattle.cert_check.specs.checker.Beginning.{chains_of};
+ghost use Rattle.cert_check.specs.checker.Sound.{IsAllowed, HaveLandmarks};
 ghost use Rattle.ed_calls.specs.Headline.{Headline, MayFail};
 ghost use Rattle.ed_calls.specs.Run.{CheckedRun, LiesOutside, Runs, RunsBy, reading, told_of};
 ghost use Rattle.ed_calls.specs.RunOver.{RunsOver, lines_told};
 
+use crate::placed::first_missed;
 use crate::stated::unmatched;
 use crate::stderr::aside::Aside;
 use crate::told::{outside_told, tell, unread_told, verdict_told};
@@ -180,8 +182,8 @@ pub(crate) fn read_start<O: Outside>(
     }
 }
 
-/// Whether the lines of a start aren't such as a certificate allows: they are too few or too many, or a pattern that it states is matched
-/// by none of them. Those of a refused one aren't known. A person is told why.
+/// Whether the lines of a start aren't such as a certificate allows: they are too few or too many, a pattern that it states is matched
+/// by none of them, or a landmark isn't where it should be. Those of a refused one aren't known. A person is told why.
 pub(crate) fn lies_outside(
     alloc: Global,
     certificate: &Certificate,
@@ -202,6 +204,29 @@ pub(crate) fn lies_outside(
     match found {
         Some(pattern) => {
             aside.unmatched(path, pattern);
+            Ok(true)
+        }
+        None => misses_landmark(alloc, certificate, path, start, aside),
+    }
+}
+
+/// Whether a start doesn't have the landmarks that a certificate states. A person is told which is missing.
+fn misses_landmark(
+    alloc: Global,
+    certificate: &Certificate,
+    path: &Option<Bytes>,
+    start: &Answer,
+    aside: &mut Aside<'_>,
+) -> Result<bool, AllocError>
+    ensures missed { IfOk result (λ outside. IsTrue outside →
+        IsSomeAnd (lines_told start.now) (λ lines. HaveLandmarks lines (chains_of (certificate_value certificate.now)) → ⊥)) }
+    ensures placed { IfOk result (λ outside. IsFalse outside →
+        IfSome (lines_told start.now) (λ lines. HaveLandmarks lines (chains_of (certificate_value certificate.now)))) }
+{
+    let found = first_missed(alloc, certificate, start)?;
+    match found {
+        Some(missed) => {
+            aside.missed(path, &missed);
             Ok(true)
         }
         None => Ok(false),

@@ -24,7 +24,7 @@ pub(crate) fn unmatched<'c>(
 {
     match certificate.version {
         Version::One => Ok(None),
-        Version::Two => unmatched_at(alloc, certificate.has.members(), start),
+        Version::Two | Version::Three => unmatched_at(alloc, certificate.has.members(), start),
     }
 }
 

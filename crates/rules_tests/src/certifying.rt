@@ -66,7 +66,7 @@ fn add_note(state: &State, notes: &mut Vec<Note>) -> Result<(), AllocError> {
 }
 
 /// Notes what is known before each command up to the first `Q`, and at the end, with `left` for room; it tells whether all needs hold.
-fn add_notes(
+pub(crate) fn add_notes(
     commands: &[Command],
     state: &mut State,
     left: &mut State,

@@ -18,6 +18,8 @@ mod followed_lines;
 #[cfg(test)]
 mod globals;
 #[cfg(test)]
+mod landmark_starts;
+#[cfg(test)]
 mod like;
 #[cfg(test)]
 mod line_facts;
@@ -35,6 +37,8 @@ mod stated_facts;
 mod substitution;
 #[cfg(test)]
 mod text;
+#[cfg(test)]
+mod third_version;
 #[cfg(test)]
 mod versions;
 #[cfg(test)]

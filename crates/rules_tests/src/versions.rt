@@ -1,4 +1,4 @@
-//! Texts of certificates of both versions.
+//! Texts of certificates of the first two versions.
 
 use crate::text::text_otherwise;
 use cert_check::{CertFault, Certificate, LineKind, Version, wanted};
@@ -113,7 +113,7 @@ struct Refused {
 
 #[rattlefmt::skip]
 static REFUSED: [Refused; 13] = [
-    Refused { text: b"ed-certificate 3\npath =F\nstart 1 any\nhas =foo\n", fault: CertFault::Version },
+    Refused { text: b"ed-certificate 4\npath =F\nstart 1 any\nhas =foo\n", fault: CertFault::Version },
     Refused { text: b"ed-certificate 2", fault: CertFault::Version },
     // Line 4 is left out.
     Refused { text: b"ed-certificate 2\npath =F\nstart 1 any\nnote\n", fault: CertFault::Line(4) },

@@ -6,7 +6,7 @@ use Rattle.std.proofs.lemmas.Bool.{false≢true, and_parts, or_cases, eqb-true, 
 use Rattle.std.proofs.lemmas.List.Elements.{All-head, All-tail}
 use Rattle.ed_rules.specs.Formed.{has_name}
 use Rattle.ed_rules.specs.facts.Facts.{LineFact, Stretch, Facts}
-use Rattle.cert_check.specs.text.Text.{Word, name_word, choice_word, lines_text}
+use Rattle.cert_check.specs.text.Text.{Word, Line, name_word, choice_word, lines_text}
 use Rattle.cert_check.specs.text.FactsText.{edge_word, ends_stretch, answer_word, fact_word, stretch_word, known_line, clear_line, facts_lines, old_facts_lines, FactIsFormed, StretchIsFormed, FactsAreFormed}
 use Rattle.cert_check.proofs.texts.Separated.{Above, Above-from_test, Above-append, AreLinesOfWords, first-of, later-of, lines-same}
 use Rattle.cert_check.proofs.texts.Worded.{Named, name_byte, name-byte, name-above, name-same, cond-true, cond-false}
@@ -163,7 +163,7 @@ stretch-above s =
 -- ALL OF THEM
 
 -- words that are the same are those of the same items
-mapped-same : {A : Type 0} (word : A → Word) (Has Is : A → Type 0) →
+pub mapped-same : {A : Type 0} (word : A → Word) (Has Is : A → Type 0) →
     ((x y : A) → Has x → Is y → word x ≡ word y → x ≡ y) →
     (a b : List A) → All Has a → All Is b → map word a ≡ map word b → a ≡ b
 mapped-same word Has Is same [] [] h k e = refl
@@ -174,7 +174,7 @@ mapped-same word Has Is same (x ∷ a) (y ∷ b) h k e =
     let later : a ≡ b = mapped-same word Has Is same a b (All-tail Has x a h) (All-tail Is y b k) (later-of e) in
     cc
 
-facts-words : (known clear : Word) → Above 32 known → Above 32 clear → (facts : Facts) →
+pub facts-words : (known clear : Word) → Above 32 known → Above 32 clear → (facts : Facts) →
     AreLinesOfWords (known_line known facts.lines ∷ clear_line clear facts.clear ∷ [])
 facts-words known clear h k facts =
     ((h, words-are-words fact_word fact-above facts.lines), ((k, words-are-words stretch_word stretch-above facts.clear), tt))
@@ -182,19 +182,28 @@ facts-words known clear h k facts =
 abbrev facts_of : List LineFact → List Stretch → Facts
 facts_of lines clear = record { lines = lines; clear = clear }
 
+pub lines-facts : (marks letters : List Bool) (known clear : Word) (one other : Facts) (r s : List Line) →
+    FactsAreFormed marks one → FactsAreFormed letters other →
+    known_line known one.lines ∷ clear_line clear one.clear ∷ r ≡ known_line known other.lines ∷ clear_line clear other.clear ∷ s →
+    (one ≡ other) × (r ≡ s)
+lines-facts marks letters known clear one other r s h k e =
+    let known_same = mapped-same fact_word (FactIsFormed marks) (FactIsFormed letters)
+    (λ f g p q. fact-same f g (line-named marks f p) (line-named letters g q)) one.lines other.lines h.known.each k.known.each (later-of (first-of e)) in
+    let clear_same = mapped-same stretch_word (StretchIsFormed marks) (StretchIsFormed letters) (λ s t p q. stretch-same marks letters s t p q)
+    one.clear other.clear h.clear.each k.clear.each (later-of (first-of (later-of e))) in (
+      ap (λ (l : List LineFact). facts_of l one.clear) known_same ∙ ap (λ (c : List Stretch). facts_of other.lines c) clear_same,
+      later-of (later-of e),
+    )
+
 same-facts : (marks letters : List Bool) (known clear : Word) → Above 32 known → Above 32 clear → (one other : Facts) →
     FactsAreFormed marks one →
     FactsAreFormed letters other →
     lines_text (known_line known one.lines ∷ clear_line clear one.clear ∷ []) ≡ lines_text (known_line known other.lines ∷ clear_line clear other.clear ∷ []) →
     one ≡ other
 same-facts marks letters known clear a b one other h k e =
-    let lines = lines-same (known_line known one.lines ∷ clear_line clear one.clear ∷ []) (known_line known other.lines ∷ clear_line clear other.clear ∷ [])
-    (facts-words known clear a b one) (facts-words known clear a b other) e in
-    let known_same = mapped-same fact_word (FactIsFormed marks) (FactIsFormed letters)
-    (λ f g p q. fact-same f g (line-named marks f p) (line-named letters g q)) one.lines other.lines h.known.each k.known.each (later-of (first-of lines)) in
-    let clear_same = mapped-same stretch_word (StretchIsFormed marks) (StretchIsFormed letters) (λ s t p q. stretch-same marks letters s t p q)
-    one.clear other.clear h.clear.each k.clear.each (later-of (first-of (later-of lines))) in
-    ap (λ (l : List LineFact). facts_of l one.clear) known_same ∙ ap (λ (c : List Stretch). facts_of other.lines c) clear_same
+    (lines-facts marks letters known clear one other [] [] h k
+    (lines-same (known_line known one.lines ∷ clear_line clear one.clear ∷ []) (known_line known other.lines ∷ clear_line clear other.clear ∷ [])
+    (facts-words known clear a b one) (facts-words known clear a b other) e)).0
 
 pub one-facts : (marks letters : List Bool) (one other : Facts) → FactsAreFormed marks one → FactsAreFormed letters other →
     lines_text (facts_lines one) ≡ lines_text (facts_lines other) → one ≡ other

@@ -12,7 +12,9 @@ use Rattle.cert_check.specs.declared.text.lines.Found.{Found}
 use Rattle.cert_check.specs.declared.text.wanted.LineKind.{LineKind}
 use Rattle.cert_check.specs.declared.text.wanted.LineKind.TheVariants as kind
 use Rattle.cert_check.specs.text.Text as text
-use Rattle.cert_check.specs.text.Text.{Word, line_text, bounds_words, letter_a, sure_letters, letters_words, choice_word, possible, limit_word, zone_line, marks_line, choices_line, replacements_line, changed_line, path_line, texts_line}
+use Rattle.cert_check.specs.text.Text.{Word, line_text, bounds_words, letter_a, sure_letters, letters_words, choice_word, possible, limit_word, zone_line, marks_line, choices_line, replacements_line, changed_line, path_line, texts_line, fact_word, stretch_word, known_line, clear_line, chains_line}
+use Rattle.ed_rules.specs.facts.Facts.{LineFact, Stretch}
+use Rattle.landmarks.specs.ChainValues.{ChainValue}
 use Rattle.cert_check.specs.text.Pieces.{IsOf, MayStand, alone, limits_line, found_line, either_line, head_line}
 use Rattle.cert_check.specs.text.Wanted.{key, other_keys, HasKey, HasSomeKey, IsOfKind, SomeLine}
 use Rattle.cert_check.proofs.texts.Pieces.{AreBegun, begun-by}
@@ -44,6 +46,15 @@ choices-keyed kind choices = first kind (map choice_word choices)
 
 pub texts-keyed : (kind : LineKind) (texts : List (List ℕ)) → IsOfKind kind (line_text (texts_line (key kind) texts))
 texts-keyed kind texts = choices-keyed kind (map Some texts)
+
+pub known-keyed : (kind : LineKind) (facts : List LineFact) → IsOfKind kind (line_text (known_line (key kind) facts))
+known-keyed kind facts = first kind (map fact_word facts)
+
+pub clear-keyed : (kind : LineKind) (stretches : List Stretch) → IsOfKind kind (line_text (clear_line (key kind) stretches))
+clear-keyed kind stretches = first kind (map stretch_word stretches)
+
+pub at-keyed : (chains : List ChainValue) → IsOfKind kind.At (line_text (chains_line chains))
+at-keyed chains = texts-keyed kind.At (map (λ (c : ChainValue). c.text) chains)
 
 pub replacements-keyed : (r : Replacements) → IsOfKind kind.Replacements (line_text (replacements_line r))
 replacements-keyed r = first kind.Replacements (possible r.none (codes "none") ++ possible r.plain (codes "plain") ++ possible r.split (codes "split"))

@@ -63,8 +63,8 @@ notes-turn-next : (t : Bool) (later after : List (List ℕ)) → after ≡ turn_
     GoesOn (IsOf (alone note_head) (λ _. Unit {0})) after
 notes-turn-next t later after e = record { here = turn_texts t; rest = later; is = record { value = t; has = tt; is = refl }; parted = e }
 
-abbrev plain_note : Note
-plain_note = note_made plain_state None
+abbrev plain_note : Version → Note
+plain_note version = note_made (plain_state version) None
 
 -- lines that are the same were read
 pub took-is : {a b : List (List ℕ)} {old new : Left} → a ≡ b → Took a old new → Took b old new
@@ -144,17 +144,17 @@ module _ (version : Version) where
       texts (alone inner_head b) ≡ lines → Continued (IsOf (inner_lines version) (All (StateHasText version)))
       (inner_texts states ++ lines)
   inner-goes-on true states lines h e = record {
-    more = texts (state_lines version plain_state) ++ (codes "done" ∷ []);
+    more = texts (state_lines version (plain_state version)) ++ (codes "done" ∷ []);
     is =
-        inner-made (states ++ plain_state ∷ [])
-        (All-append (StateHasText version) states (plain_state ∷ []) h
-        (All-cons (StateHasText version) plain_state [] (plain-state version) (All-nil (StateHasText version))))
-        ((inner_texts states ++ lines) ++ (texts (state_lines version plain_state) ++ (codes "done" ∷ []))) (
-        ap (λ (l : List (List ℕ)). l ++ (codes "done" ∷ [])) (inner-more states (plain_state ∷ []))
-        ∙ append_assoc (inner_texts states) (inner_texts (plain_state ∷ [])) (codes "done" ∷ [])
-        ∙ ap (λ (l : List (List ℕ)). inner_texts states ++ l) (inner-split plain_state [] (codes "done" ∷ []))
-        ∙ ap (λ (l : List (List ℕ)). inner_texts states ++ (l ++ (texts (state_lines version plain_state) ++ (codes "done" ∷ [])))) e
-        ∙ sym (append_assoc (inner_texts states) lines (texts (state_lines version plain_state) ++ (codes "done" ∷ []))));
+        inner-made (states ++ (plain_state version) ∷ [])
+        (All-append (StateHasText version) states ((plain_state version) ∷ []) h
+        (All-cons (StateHasText version) (plain_state version) [] (plain-state version) (All-nil (StateHasText version))))
+        ((inner_texts states ++ lines) ++ (texts (state_lines version (plain_state version)) ++ (codes "done" ∷ []))) (
+        ap (λ (l : List (List ℕ)). l ++ (codes "done" ∷ [])) (inner-more states ((plain_state version) ∷ []))
+        ∙ append_assoc (inner_texts states) (inner_texts ((plain_state version) ∷ [])) (codes "done" ∷ [])
+        ∙ ap (λ (l : List (List ℕ)). inner_texts states ++ l) (inner-split (plain_state version) [] (codes "done" ∷ []))
+        ∙ ap (λ (l : List (List ℕ)). inner_texts states ++ (l ++ (texts (state_lines version (plain_state version)) ++ (codes "done" ∷ [])))) e
+        ∙ sym (append_assoc (inner_texts states) lines (texts (state_lines version (plain_state version)) ++ (codes "done" ∷ []))));
   }
   inner-goes-on false states lines h e = record {
     more = [];
@@ -384,16 +384,16 @@ module _ (version : Version) where
         (ap (λ (l : List (List ℕ)). texts (state_lines version s) ++ l) e ∙ sym (append-nil (texts (state_lines version s) ++ lines)));
   }
   head-goes-on Loop s lines h e = record {
-    more = texts (list_lines version (looped_made plain_state [])) ++ turn_texts false;
+    more = texts (list_lines version (looped_made (plain_state version) [])) ++ turn_texts false;
     is =
-        noted-made (note_made s (Some (looped_made plain_state []))) false
-        ((texts (state_lines version s) ++ lines) ++ (texts (list_lines version (looped_made plain_state [])) ++ turn_texts false))
+        noted-made (note_made s (Some (looped_made (plain_state version) []))) false
+        ((texts (state_lines version s) ++ lines) ++ (texts (list_lines version (looped_made (plain_state version) [])) ++ turn_texts false))
         (h, (plain-state version, All-nil (StateHasText version)))
         (ap (λ (l : List (List ℕ)). texts (state_lines version s) ++ l)
-        (looped-some (looped_made plain_state []) (turn_texts false)
-        ∙ ap (λ (l : List (List ℕ)). l ++ (texts (list_lines version (looped_made plain_state [])) ++ turn_texts false)) e)
+        (looped-some (looped_made (plain_state version) []) (turn_texts false)
+        ∙ ap (λ (l : List (List ℕ)). l ++ (texts (list_lines version (looped_made (plain_state version) [])) ++ turn_texts false)) e)
         ∙ sym (append_assoc (texts (state_lines version s)) lines
-        (texts (list_lines version (looped_made plain_state [])) ++ turn_texts false)));
+        (texts (list_lines version (looped_made (plain_state version) [])) ++ turn_texts false)));
   }
 
   head-next : (l : Option Looped) (b : Bool) (back after : List (List ℕ)) → looped_texts l ++ (turn_texts b ++ back) ≡ after →
@@ -641,12 +641,12 @@ module _ (version : Version) where
       note_texts notes ++ turn_texts b ≡ lines → Continued (IsOf (notes_lines version) (All (NoteHasText version))) lines
   notes-go-on false notes lines h e = record { more = []; is = notes-made notes (lines ++ []) h (e ∙ sym (append-nil lines)) }
   notes-go-on true notes lines h e = record {
-    more = texts (noted_lines version (plain_note, false));
+    more = texts (noted_lines version ((plain_note version), false));
     is =
-        notes-made (notes ++ plain_note ∷ []) (lines ++ texts (noted_lines version (plain_note, false)))
-        (one-more-formed notes plain_note h (plain-state version, tt))
-        (sym (notes-taken notes plain_note false)
-        ∙ ap (λ (l : List (List ℕ)). l ++ texts (noted_lines version (plain_note, false))) e);
+        notes-made (notes ++ (plain_note version) ∷ []) (lines ++ texts (noted_lines version ((plain_note version), false)))
+        (one-more-formed notes (plain_note version) h (plain-state version, tt))
+        (sym (notes-taken notes (plain_note version) false)
+        ∙ ap (λ (l : List (List ℕ)). l ++ texts (noted_lines version ((plain_note version), false))) e);
   }
 
   pub notes-turn : Expects (IsOf (notes_lines version) (All (NoteHasText version))) [] (IsOf (alone note_head) (λ _. Unit {0}))

@@ -1,5 +1,5 @@
 -- Pieces of a text: a piece that can't be read is a fault of the text in which it stands.
-use Rattle.std.proofs.Common.{◌≡◌, ◌++◌, ◌∷◌, [], ℕ, List, Option, Result, Ok, Err, None, Some, inl, inr, arith, refl, ◌∙◌, sym, ap, subst, append_assoc, append-nil, length-append}
+use Rattle.std.proofs.Common.{◌≡◌, ◌≢◌, ◌++◌, ◌∷◌, [], ℕ, List, Option, Result, Ok, Err, None, Some, inl, inr, arith, refl, ◌∙◌, sym, ap, subst, append_assoc, append-nil, length-append}
 use Rattle.std.specs.Prelude.{IsErrAnd, MatchOption, option_map, All}
 use Rattle.std.proofs.lemmas.List.Elements.{All-nil, All-cons, All-weaker}
 use Rattle.ed_base.specs.Lines.{newline, IsLine, bytes_of}
@@ -227,6 +227,13 @@ same-read : {A : Type 0} (spell : A → text.Line) (Has : A → Type 0) (line : 
     ReadsAs spell Has line read → ReadsAs spell Has line (option_map same read)
 same-read spell Has line None h = h
 same-read spell Has line (Some a) h = h
+
+-- a value in memory that a line is read as, or none
+pub as-read : {A B : Type 0} (value : A → B) (spell : B → text.Line) (Has : B → Type 0) (line : List ℕ) (read : Option A) →
+    MatchOption read ((other : B) → Has other → line_text (spell other) ≢ line) (λ a. (line_text (spell (value a)) ≡ line) × Has (value a)) →
+    ReadsAs spell Has line (option_map value read)
+as-read value spell Has line None h = h
+as-read value spell Has line (Some a) h = h
 
 -- the same of a value that is as it is in memory
 pub line-itself : {A : Type 0} (spell : A → text.Line) (Has : A → Type 0) (v : A) (kind : LineKind) (old mid : Left) (line : List ℕ)

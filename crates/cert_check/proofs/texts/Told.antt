@@ -7,7 +7,7 @@ use Rattle.ed_base.specs.Lines.{newline, IsLine, AreLines, lines_of, bytes_of}
 use Rattle.ed_base.proofs.LineLemmas.{bytes_of-append, lines_of-bytes_of, lines_of-written}
 use Rattle.ed_syntax.proofs.reader.TextLemmas.{same_line}
 use Rattle.cert_check.specs.declared.certificate.Version as versions
-use Rattle.cert_check.specs.declared.certificate.Version.TheVariants.{One, Two}
+use Rattle.cert_check.specs.declared.certificate.Version.TheVariants.{One, Two, Three}
 use Rattle.cert_check.specs.declared.certificate.Certificate as public
 use Rattle.cert_check.specs.declared.text.fault.CertFault.{CertFault}
 use Rattle.cert_check.specs.declared.text.fault.Unread.{Unread}
@@ -15,7 +15,7 @@ use Rattle.cert_check.specs.declared.text.fault.Unread.TheVariants.{Version, Lin
 use Rattle.cert_check.specs.declared.text.wanted.Wanted.{Wanted}
 use Rattle.cert_check.specs.Certificates.{Certificate}
 use Rattle.cert_check.specs.text.Text as text
-use Rattle.cert_check.specs.text.Text.{Word, line_text, version_line, opening_lines, closing_lines, note_lines, matched_lines, state_lines, path_line, bounds_line, texts_line, text_of}
+use Rattle.cert_check.specs.text.Text.{Word, line_text, version_line, opening_lines, closing_lines, note_lines, matched_lines, chains_lines, state_lines, path_line, bounds_line, texts_line, text_of}
 use Rattle.cert_check.specs.text.HasText.{HasText, IsText}
 use Rattle.cert_check.specs.text.Faults.{Begins, IsWhole, IsVersionFault, IsLineFault, IsSizeFault, more, less, IsReading}
 use Rattle.cert_check.specs.text.Pieces.{Left, Took, texts, IsOf, MayStand, IsStrange, IsShort, IsFault, fault_of, IsReadAs, rest_lines, HasTextIn}
@@ -73,7 +73,7 @@ whole-lines : (c : Certificate) →
 whole-lines c =
     one_text.whole-lines c
     ∙ ap (λ (l : List text.Line). version_line c.version ∷ path_line c.path ∷ bounds_line (codes "start") c.min
-    c.max ∷ (matched_lines c.version (codes "has") c.has ++ l))
+    c.max ∷ (matched_lines c.version (codes "has") c.has ++ (chains_lines c.version c.landmarks ++ l)))
     (sym (notes-assoc c.version c.notes
     (state_lines c.version c.last ++ bounds_line (codes "final") c.low c.high ∷ texts_line (codes "writes") c.writes ∷ [])))
 
@@ -238,6 +238,7 @@ no-version-line bytes h version rest e = no-newline (version_text version) rest 
 version-lines : (version : versions.Version) → IsLine (version_text version)
 version-lines One = line-above (version_text One) (omega arith)
 version-lines Two = line-above (version_text Two) (omega arith)
+version-lines Three = line-above (version_text Three) (omega arith)
 
 pub other-version : (bytes line after : List ℕ) → IsLine line → bytes ≡ line ++ newline ∷ after →
     ((version : versions.Version) → Unit {0} → version_text version ≢ line) → IsVersionFault bytes

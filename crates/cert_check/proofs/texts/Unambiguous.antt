@@ -1,5 +1,5 @@
 -- A text is the text of one certificate.
-use Rattle.std.proofs.Common.{◌≡◌, ◌<◌, ◌++◌, ◌∷◌, [], ℕ, Bool, List, Option, None, Some, arith, refl, ◌∙◌, sym, ap, append_assoc}
+use Rattle.std.proofs.Common.{◌≡◌, ◌<◌, ◌++◌, ◌∷◌, [], ℕ, Bool, List, Option, None, Some, arith, refl, ◌∙◌, sym, ap, subst, map, append_assoc}
 use Rattle.std.specs.Prelude.{codes, is_some, All}
 use Rattle.std.specs.List.{flat_map}
 use Rattle.std.proofs.lemmas.List.Elements.{All-head, All-tail}
@@ -12,13 +12,19 @@ use Rattle.ed_rules.specs.declared.state.Undo.{Undo}
 use Rattle.ed_rules.specs.declared.state.State.{State}
 use Rattle.ed_rules.specs.Choices.{Choice}
 use Rattle.cert_check.specs.Certificates.{Looped, Note}
-use Rattle.cert_check.specs.text.Text.{Word, Line, letters_words, sure_letters, bounds_words, choices_line, replacements_line, changed_line, undo_line, matched_lines, old_lines, earlier_lines, state_lines, headed_lines, looped_lines, note_lines}
+use Rattle.cert_check.specs.text.Text.{Word, Line, letters_words, sure_letters, bounds_words, choices_line, replacements_line, changed_line, undo_line, BufferKeys, matched_lines, told_lines, own_keys, earlier_keys, buffer_lines, buffer_of, chains_lines, old_lines, earlier_lines, state_lines, headed_lines, looped_lines, note_lines}
 use Rattle.ed_rules.specs.Formed.{ZoneIsFormed, OldIsFormed}
 use Rattle.ed_rules.specs.facts.Facts.{Facts}
-use Rattle.cert_check.specs.text.Pieces.{EarlierIsFormed}
+use Rattle.cert_check.specs.text.Pieces.{BufferIsFormed, EarlierIsFormed}
+use Rattle.cert_check.specs.text.FactsText.{AreToldIn}
+use Rattle.landmarks.specs.declared.landmark.Landmark.{Landmark}
+use Rattle.landmarks.specs.ChainValues.{ChainValue}
+use Rattle.landmarks.specs.Spelled.{SpellsChain}
+use Rattle.landmarks.proofs.Chains.{chain-one}
+use Rattle.cert_check.proofs.texts.FactWords.{mapped-same, lines-facts}
 use Rattle.cert_check.specs.declared.certificate.Version.{Version}
-use Rattle.cert_check.specs.declared.certificate.Version.TheVariants.{One, Two}
-use Rattle.cert_check.specs.text.HasText.{IsSaidIn, OldIsSaidIn, OldSaysNothing, StateHasText, LoopedHasText, NoteHasText}
+use Rattle.cert_check.specs.declared.certificate.Version.TheVariants.{One, Two, Three}
+use Rattle.cert_check.specs.text.HasText.{IsSaidIn, OldIsSaidIn, OldIsToldIn, StateHasText, ChainHasText, ChainsHaveText, LoopedHasText, NoteHasText}
 use Rattle.cert_check.proofs.texts.Zoned.{zone-said, bounds-same}
 use Rattle.cert_check.proofs.texts.Chosen.{marks-same, choices-same, texts-same, Same, two-same, three-same}
 use Rattle.cert_check.proofs.texts.Separated.{first-of, later-of}
@@ -38,18 +44,24 @@ old_made zone marks facts = record { zone = zone; marks = marks; facts = facts }
 pub old-by : (a b : Old) → a.zone ≡ b.zone → a.marks ≡ b.marks → a.facts ≡ b.facts → a ≡ b
 old-by a b z m f = λ k. old_made (z k) (m k) (f k)
 
--- an earlier buffer that is formed, of whose single lines nothing is said
-pub earlier-formed : (was : Option Old) → OldIsFormed was → OldSaysNothing was → EarlierIsFormed was
-earlier-formed None h k = tt
-earlier-formed (Some old) h k = (h, k)
+-- an earlier buffer that is formed, with what is said and told of it
+pub earlier-formed : (version : Version) (was : Option Old) (has : List (List ℕ)) → OldIsFormed was → OldIsSaidIn version was has →
+    OldIsToldIn version was → EarlierIsFormed version was has
+earlier-formed version None has h k l = k
+earlier-formed version (Some old) has h k l = (h, (k, l))
 
-pub formed-earlier : (was : Option Old) → EarlierIsFormed was → OldIsFormed was
-formed-earlier None h = tt
-formed-earlier (Some old) h = h.0
+pub formed-earlier : (version : Version) (was : Option Old) (has : List (List ℕ)) → EarlierIsFormed version was has → OldIsFormed was
+formed-earlier version None has h = tt
+formed-earlier version (Some old) has h = h.0
 
-pub nothing-earlier : (was : Option Old) → EarlierIsFormed was → OldSaysNothing was
-nothing-earlier None h = tt
-nothing-earlier (Some old) h = h.1
+pub said-earlier : (version : Version) (was : Option Old) (has : List (List ℕ)) → EarlierIsFormed version was has →
+    OldIsSaidIn version was has
+said-earlier version None has h = h
+said-earlier version (Some old) has h = h.1.0
+
+pub told-earlier : (version : Version) (was : Option Old) (has : List (List ℕ)) → EarlierIsFormed version was has → OldIsToldIn version was
+told-earlier version None has h = tt
+told-earlier version (Some old) has h = h.1.1
 
 abbrev replacements_made : (none plain split : Bool) → Replacements
 replacements_made none plain split = record { none = none; plain = plain; split = split }
@@ -120,6 +132,56 @@ pub matched-same : (version : Version) (key : Word) (m n : List (List ℕ)) (r s
     IsSaidIn version n → matched_lines version key m ++ r ≡ matched_lines version key n ++ s → (m ≡ n) × (r ≡ s)
 matched-same One key m n r s h k e = (h ∙ sym k, e)
 matched-same Two key m n r s h k e = (texts-same m n (later-of (first-of e)), later-of e)
+matched-same Three key m n r s h k e = (texts-same m n (later-of (first-of e)), later-of e)
+
+-- what is known of single lines, before other lines
+told-same : (version : Version) (marks letters : List Bool) (known clear : Word) (f g : Facts) (r s : List Line) →
+    AreToldIn version marks f → AreToldIn version letters g →
+    told_lines version known clear f ++ r ≡ told_lines version known clear g ++ s → (f ≡ g) × (r ≡ s)
+told-same One marks letters known clear f g r s h k e = (h ∙ sym k, e)
+told-same Two marks letters known clear f g r s h k e = (h ∙ sym k, e)
+told-same Three marks letters known clear f g r s h k e = lines-facts marks letters known clear f g r s h k e
+
+-- what is known of a buffer, before other lines
+abbrev pub Buffer : Type 0
+Buffer = Old × List (List ℕ)
+
+buffer-by : (a b : Buffer) → a.0 ≡ b.0 → a.1 ≡ b.1 → a ≡ b
+buffer-by a b p q = λ k. (p k, q k)
+
+pub buffer-same : (version : Version) (keys : BufferKeys) (a b : Buffer) (r s : List Line) → BufferIsFormed version a →
+    BufferIsFormed version b → buffer_lines version keys a ++ r ≡ buffer_lines version keys b ++ s → (a ≡ b) × (r ≡ s)
+buffer-same version keys a b r s h k e =
+    let told_a : List Line = told_lines version keys.lines keys.clear a.0.facts in
+    let told_b : List Line = told_lines version keys.lines keys.clear b.0.facts in
+    let zones = zone-same a.0.marks b.0.marks a.0.zone b.0.zone h.0 k.0 (later-of (first-of e)) in
+    let rest = later-of e in
+    let marks = letters-same a.0.marks b.0.marks a.0.zone b.0.zone h.0 k.0 (later-of (first-of rest)) in
+    let matched = matched-same version keys.has a.1 b.1 (told_a ++ r) (told_b ++ s) h.1.0 k.1.0
+    (sym (append_assoc (matched_lines version keys.has a.1) told_a r) ∙ later-of rest
+    ∙ append_assoc (matched_lines version keys.has b.1) told_b s) in
+    let told = told-same version a.0.marks b.0.marks keys.lines keys.clear a.0.facts b.0.facts r s h.1.1 k.1.1 matched.1 in
+    (buffer-by a b (old-by a.0 b.0 zones marks told.0) matched.0, told.1)
+
+-- chains of landmarks, before other lines
+abbrev chain_made : List ℕ → List Landmark → ChainValue
+chain_made text landmarks = record { text = text; landmarks = landmarks }
+
+chain-same : (x y : ChainValue) → ChainHasText x → ChainHasText y → x.text ≡ y.text → x ≡ y
+chain-same x y h k e =
+    let same : x.landmarks ≡ y.landmarks =
+    chain-one y.text x.landmarks y.landmarks (subst (λ (t : List ℕ). SpellsChain t x.landmarks) e h.spelled) k.spelled in
+    λ i. chain_made (e i) (same i)
+
+pub chains-same : (version : Version) (m n : List ChainValue) (r s : List Line) → ChainsHaveText version m →
+    ChainsHaveText version n → chains_lines version m ++ r ≡ chains_lines version n ++ s → (m ≡ n) × (r ≡ s)
+chains-same One m n r s h k e = (h ∙ sym k, e)
+chains-same Two m n r s h k e = (h ∙ sym k, e)
+chains-same Three m n r s h k e = (
+  mapped-same (λ (c : ChainValue). c.text) ChainHasText ChainHasText chain-same m n h k
+      (texts-same (map (λ (c : ChainValue). c.text) m) (map (λ (c : ChainValue). c.text) n) (later-of (first-of e))),
+  later-of e,
+)
 
 -- an earlier buffer, and what some of its lines match, before other lines
 pub record SameOld (a b : Option Old) (m n : List (List ℕ)) (r s : List Line) : Type 0 where
@@ -130,35 +192,35 @@ pub record SameOld (a b : Option Old) (m n : List (List ℕ)) (r s : List Line) 
 module _ (version : Version) where
   -- an earlier buffer, a state, notes, before other lines
 
-  old-same : (a b : Option Old) (m n : List (List ℕ)) (r s : List Line) → is_some a ≡ is_some b → EarlierIsFormed a →
-      EarlierIsFormed b → OldIsSaidIn version a m → OldIsSaidIn version b n →
-      old_lines version a m ++ r ≡ old_lines version b n ++ s → SameOld a b m n r s
-  old-same None None m n r s i h k p q e = record { was = refl; has = p ∙ sym q; later = e }
-  old-same None (Some b) m n r s i h k p q e = absurd cc
-  old-same (Some a) None m n r s i h k p q e = absurd cc
-  old-same (Some a) (Some b) m n r s i h k p q e =
-      let zones = zone-same a.marks b.marks a.zone b.zone h.0 k.0 (later-of (first-of e)) in
-      let rest = later-of e in
-      let marks = letters-same a.marks b.marks a.zone b.zone h.0 k.0 (later-of (first-of rest)) in
-      let matched = matched-same version (codes "old-has") m n r s p q (later-of rest) in
-      record { was = ap (λ (o : Old). Some o) (old-by a b zones marks (h.1 ∙ sym k.1)); has = matched.0; later = matched.1 }
+  old-same : (a b : Option Old) (m n : List (List ℕ)) (r s : List Line) → is_some a ≡ is_some b → EarlierIsFormed version a m →
+      EarlierIsFormed version b n → old_lines version a m ++ r ≡ old_lines version b n ++ s → SameOld a b m n r s
+  old-same None None m n r s i h k e = record { was = refl; has = h ∙ sym k; later = e }
+  old-same None (Some b) m n r s i h k e = absurd cc
+  old-same (Some a) None m n r s i h k e = absurd cc
+  old-same (Some a) (Some b) m n r s i h k e =
+      let both = buffer-same version earlier_keys (a, m) (b, n) r s h k e in
+      record { was = ap (λ (z : Buffer). Some z.0) both.0; has = ap (λ (z : Buffer). z.1) both.0; later = both.1 }
 
-  -- the lines of a state below what some line matches
+  -- the lines of a state below those on its buffer
   abbrev pub after_matched : State → List Line
   after_matched s =
       choices_line (codes "patterns") s.patterns ∷ replacements_line s.replacements ∷ choices_line (codes "names") s.names
       ∷ changed_line s.changed ∷ undo_line s.undo ∷ earlier_lines version s
 
+  -- what is known of a state's own buffer
+  pub own-formed : (s : State) → StateHasText version s → BufferIsFormed version (buffer_of s)
+  own-formed s h = (h.formed.zone, (h.matches.0, h.facts))
+
   pub state-same : (a b : State) (r s : List Line) → StateHasText version a → StateHasText version b →
       state_lines version a ++ r ≡ state_lines version b ++ s → (a ≡ b) × (r ≡ s)
-  state-same a b r s said other zone =
+  state-same a b r s said other e =
       let h = said.formed in
       let k = other.formed in
-      let marks = later-of zone in
-      let matched = matched-same version (codes "has") a.matches.has b.matches.has (after_matched a ++ r) (after_matched b ++ s) said.matches.0 other.matches.0 (
-      sym (append_assoc (matched_lines version (codes "has") a.matches.has) (after_matched a) r) ∙ later-of marks
-      ∙ append_assoc (matched_lines version (codes "has") b.matches.has) (after_matched b) s) in
-      let patterns = matched.1 in
+      let own = buffer-same version own_keys (buffer_of a) (buffer_of b) (after_matched a ++ r) (after_matched b ++ s) (own-formed a said)
+      (own-formed b other) (
+      sym (append_assoc (buffer_lines version own_keys (buffer_of a)) (after_matched a) r) ∙ e
+      ∙ append_assoc (buffer_lines version own_keys (buffer_of b)) (after_matched b) s) in
+      let patterns = own.1 in
       let replacements = later-of patterns in
       let names = later-of replacements in
       let changed = later-of names in
@@ -171,18 +233,19 @@ module _ (version : Version) where
       let undone = three-same (codes "nothing") (codes "same") (codes "was") refl refl refl a.undo.nothing a.undo.same (is_some a.undo.was)
       b.undo.nothing b.undo.same (is_some b.undo.was) (later-of (first-of undo)) in
       let was = old-same a.undo.was b.undo.was a.matches.old_has b.matches.old_has r s undone.third
-      (earlier-formed a.undo.was h.old said.old_facts) (earlier-formed b.undo.was k.old other.old_facts) said.matches.1 other.matches.1 old in (
+      (earlier-formed version a.undo.was a.matches.old_has h.old said.matches.1 said.old_facts)
+      (earlier-formed version b.undo.was b.matches.old_has k.old other.matches.1 other.old_facts) old in (
         state-by a b
-            (zone-same a.marks b.marks a.zone b.zone h.zone k.zone (later-of (first-of zone)))
-            (letters-same a.marks b.marks a.zone b.zone h.zone k.zone (later-of (first-of marks)))
+            (ap (λ (z : Buffer). z.0.zone) own.0)
+            (ap (λ (z : Buffer). z.0.marks) own.0)
             (choices-same a.patterns b.patterns (later-of (first-of patterns)))
             (replacements-by a.replacements b.replacements kinds)
             (choices-same a.names b.names (later-of (first-of names)))
             (changed-by a.changed b.changed sides.0 sides.1)
             (undo-by a.undo b.undo undone.first undone.second was.was)
-            (matches-by a.matches b.matches matched.0 was.has)
+            (matches-by a.matches b.matches (ap (λ (z : Buffer). z.1) own.0) was.has)
             (said.follows ∙ sym other.follows)
-            (said.facts ∙ sym other.facts),
+            (ap (λ (z : Buffer). z.0.facts) own.0),
         was.later,
       )
 

@@ -9,7 +9,7 @@ use Rattle.ed_rules.specs.declared.state.Old.{Old}
 use Rattle.ed_rules.specs.declared.state.Replacements.{Replacements}
 use Rattle.ed_rules.specs.declared.state.State.{State}
 use Rattle.cert_check.specs.declared.certificate.Version.{Version}
-use Rattle.cert_check.specs.text.Text.{Word, Line, space, spaced, line_text, lines_text, possible, zone_line, marks_line, choices_line, texts_line, matched_lines, replacements_line, changed_line, undo_line, old_lines, earlier_lines, state_lines, headed_lines, looped_lines, note_lines, version_line, path_line, bounds_line, opening_lines, closing_lines, text_of}
+use Rattle.cert_check.specs.text.Text.{Word, Line, space, spaced, line_text, lines_text, possible, zone_line, marks_line, choices_line, texts_line, matched_lines, told_lines, buffer_lines, buffer_of, own_keys, earlier_keys, BufferKeys, chains_lines, replacements_line, changed_line, undo_line, old_lines, earlier_lines, state_lines, headed_lines, looped_lines, note_lines, version_line, path_line, bounds_line, opening_lines, closing_lines, text_of}
 use Rattle.cert_check.specs.Certificates.{Looped, Note, Certificate}
 
 -- lines after lines
@@ -61,34 +61,38 @@ one-more {X} f xs i x o p q h is is_p is_q =
     then-lines o p q (flat_map f (take i xs)) (f x) is_p is_q ∙ ap (λ (ls : List Line). o ++ lines_text ls) now
 
 module _ (version : Version) where
-  pub state-written : (o a b m c d e f g h : List ℕ) (s : State) →
-      a ≡ o ++ lines_text (zone_line (codes "zone") s.zone ∷ []) → b ≡ a ++ lines_text (marks_line (codes "marks") s.marks ∷ []) →
-      m ≡ b ++ lines_text (matched_lines version (codes "has") s.matches.has) →
+  -- what is known of a buffer
+  pub buffer-written : (o a b m n : List ℕ) (keys : BufferKeys) (buffer : Old × List (List ℕ)) →
+      a ≡ o ++ lines_text (zone_line keys.zone buffer.0.zone ∷ []) → b ≡ a ++ lines_text (marks_line keys.marks buffer.0.marks ∷ []) →
+      m ≡ b ++ lines_text (matched_lines version keys.has buffer.1) →
+      n ≡ m ++ lines_text (told_lines version keys.lines keys.clear buffer.0.facts) → n ≡ o ++ lines_text (buffer_lines version keys buffer)
+  buffer-written o a b m n keys buffer is_a is_b is_m is_n =
+      let zone : Line = zone_line keys.zone buffer.0.zone in
+      let marks : Line = marks_line keys.marks buffer.0.marks in
+      let matched : List Line = matched_lines version keys.has buffer.1 in
+      let told : List Line = told_lines version keys.lines keys.clear buffer.0.facts in
+      then-lines o b n (zone ∷ marks ∷ []) (matched ++ told) (then-lines o a b (zone ∷ []) (marks ∷ []) is_a is_b)
+      (then-lines b m n matched told is_m is_n)
+
+  pub state-written : (o m c d e f g h : List ℕ) (s : State) → m ≡ o ++ lines_text (buffer_lines version own_keys (buffer_of s)) →
       c ≡ m ++ lines_text (choices_line (codes "patterns") s.patterns ∷ []) → d ≡ c ++ lines_text (replacements_line s.replacements ∷ []) →
       e ≡ d ++ lines_text (choices_line (codes "names") s.names ∷ []) → f ≡ e ++ lines_text (changed_line s.changed ∷ []) →
       g ≡ f ++ lines_text (undo_line s.undo ∷ []) → h ≡ g ++ lines_text (earlier_lines version s) → h ≡ o ++ lines_text (state_lines version s)
-  state-written o a b m c d e f g h s is_a is_b is_m is_c is_d is_e is_f is_g is_h =
-      let zone : Line = zone_line (codes "zone") s.zone in
-      let marks : Line = marks_line (codes "marks") s.marks in
+  state-written o m c d e f g h s is_m is_c is_d is_e is_f is_g is_h =
       let patterns : Line = choices_line (codes "patterns") s.patterns in
       let replacements : Line = replacements_line s.replacements in
       let names : Line = choices_line (codes "names") s.names in
       let changed : Line = changed_line s.changed in
-      let above : List Line = zone ∷ marks ∷ matched_lines version (codes "has") s.matches.has in
-      then-lines o m h above (patterns ∷ replacements ∷ names ∷ changed ∷ undo_line s.undo ∷ earlier_lines version s)
-      (then-lines o b m (zone ∷ marks ∷ []) (matched_lines version (codes "has") s.matches.has) (then-lines o a b (zone ∷ []) (marks ∷ []) is_a is_b) is_m) (
+      then-lines o m h (buffer_lines version own_keys (buffer_of s))
+      (patterns ∷ replacements ∷ names ∷ changed ∷ undo_line s.undo ∷ earlier_lines version s) is_m (
       then-lines m g h (patterns ∷ replacements ∷ names ∷ changed ∷ undo_line s.undo ∷ []) (earlier_lines version s) (
       then-lines m f g (patterns ∷ replacements ∷ names ∷ changed ∷ []) (undo_line s.undo ∷ []) (
       then-lines m e f (patterns ∷ replacements ∷ names ∷ []) (changed ∷ []) (
       then-lines m d e (patterns ∷ replacements ∷ []) (names ∷ []) (then-lines m c d (patterns ∷ []) (replacements ∷ []) is_c is_d) is_e) is_f) is_g) is_h)
 
-  pub old-written : (o a b m : List ℕ) (old : Old) (has : List (List ℕ)) (was : Option Old) → was ≡ Some old →
-      a ≡ o ++ lines_text (zone_line (codes "old-zone") old.zone ∷ []) → b ≡ a ++ lines_text (marks_line (codes "old-marks") old.marks ∷ []) →
-      m ≡ b ++ lines_text (matched_lines version (codes "old-has") has) → m ≡ o ++ lines_text (old_lines version was has)
-  old-written o a b m old has was is is_a is_b is_m =
-      then-lines o b m (zone_line (codes "old-zone") old.zone ∷ marks_line (codes "old-marks") old.marks ∷ []) (matched_lines version (codes "old-has") has)
-      (then-lines o a b (zone_line (codes "old-zone") old.zone ∷ []) (marks_line (codes "old-marks") old.marks ∷ []) is_a is_b) is_m
-      ∙ ap (λ (w : Option Old). o ++ lines_text (old_lines version w has)) (sym is)
+  pub old-written : (o m : List ℕ) (old : Old) (has : List (List ℕ)) (was : Option Old) → was ≡ Some old →
+      m ≡ o ++ lines_text (buffer_lines version earlier_keys (old, has)) → m ≡ o ++ lines_text (old_lines version was has)
+  old-written o m old has was is is_m = is_m ∙ ap (λ (w : Option Old). o ++ lines_text (old_lines version w has)) (sym is)
 
   pub looped-written : (o a b c : List ℕ) (l : Looped) → a ≡ o ++ lines_text (headed_lines version (codes "loop") l.invariant) →
       b ≡ a ++ lines_text (flat_map (headed_lines version (codes "inner")) l.inner) → c ≡ b ++ (codes "done" ++ newline ∷ []) → c ≡ o ++ lines_text (looped_lines version (Some l))
@@ -101,12 +105,16 @@ module _ (version : Version) where
       b ≡ o ++ lines_text (note_lines version n)
   note-written o a b n is_a is_b = then-lines o a b (headed_lines version (codes "note") n.state) (looped_lines version n.looped) is_a is_b
 
-pub opening-written : (o a b c d : List ℕ) (x : Certificate) → a ≡ o ++ lines_text (version_line x.version ∷ []) → b ≡ a ++ lines_text (path_line x.path ∷ []) →
-    c ≡ b ++ lines_text (bounds_line (codes "start") x.min x.max ∷ []) → d ≡ c ++ lines_text (matched_lines x.version (codes "has") x.has) → d ≡ o ++ lines_text (opening_lines x)
-opening-written o a b c d x is_a is_b is_c is_d =
-    then-lines o c d (version_line x.version ∷ path_line x.path ∷ bounds_line (codes "start") x.min x.max ∷ []) (matched_lines x.version (codes "has") x.has)
+pub opening-written : (o a b c d e : List ℕ) (x : Certificate) → a ≡ o ++ lines_text (version_line x.version ∷ []) → b ≡ a ++ lines_text (path_line x.path ∷ []) →
+    c ≡ b ++ lines_text (bounds_line (codes "start") x.min x.max ∷ []) → d ≡ c ++ lines_text (matched_lines x.version (codes "has") x.has) →
+    e ≡ d ++ lines_text (chains_lines x.version x.landmarks) → e ≡ o ++ lines_text (opening_lines x)
+opening-written o a b c d e x is_a is_b is_c is_d is_e =
+    let matched : List Line = matched_lines x.version (codes "has") x.has in
+    let chains : List Line = chains_lines x.version x.landmarks in
+    then-lines o c e (version_line x.version ∷ path_line x.path ∷ bounds_line (codes "start") x.min x.max ∷ []) (matched ++ chains)
     (then-lines o b c (version_line x.version ∷ path_line x.path ∷ []) (bounds_line (codes "start") x.min x.max ∷ [])
-    (then-lines o a b (version_line x.version ∷ []) (path_line x.path ∷ []) is_a is_b) is_c) is_d
+    (then-lines o a b (version_line x.version ∷ []) (path_line x.path ∷ []) is_a is_b) is_c)
+    (then-lines c d e matched chains is_d is_e)
 
 pub closing-written : (o a b c : List ℕ) (x : Certificate) → a ≡ o ++ lines_text (headed_lines x.version (codes "end") x.last) →
     b ≡ a ++ lines_text (bounds_line (codes "final") x.low x.high ∷ []) → c ≡ b ++ lines_text (texts_line (codes "writes") x.writes ∷ []) →

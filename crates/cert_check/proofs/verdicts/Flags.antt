@@ -106,16 +106,24 @@ over-no-flags begun f g is before none =
 pub over-unflagged : (v : Version) (begun f : editor.State) (g : Open) → f.global ≡ Some g → g.before ≡ kept begun → FlaggedPass passes_none f.lines → IsUnflagged v (closed f)
 over-unflagged version.One begun f g is before none = tt
 over-unflagged version.Two begun f g is before none = over-no-flags begun f g is before none
+over-unflagged version.Three begun f g is before none = over-no-flags begun f g is before none
 
 -- OUTSIDE LISTS
 
 -- in an editor that was just opened, also where other lines without the flag are in place of its own
+opened-no-flags : (path : Option (List ℕ)) (bytes : List ℕ) (lines : List Line) → unflagged lines ≡ lines →
+    HasNoFlags (record (opened path bytes) { lines = lines })
+opened-no-flags path bytes lines none =
+    record { buffer = subst (λ (ls : List Line). FlaggedPass passes_none ls) none (unflagged-none lines); past = tt }
+
 pub lines-unflagged : (v : Version) (path : Option (List ℕ)) (bytes : List ℕ) (lines : List Line) → unflagged lines ≡ lines → IsUnflagged v (record (opened path bytes) { lines = lines })
 lines-unflagged version.One path bytes lines none = tt
-lines-unflagged version.Two path bytes lines none = record { buffer = subst (λ (ls : List Line). FlaggedPass passes_none ls) none (unflagged-none lines); past = tt }
+lines-unflagged version.Two path bytes lines none = opened-no-flags path bytes lines none
+lines-unflagged version.Three path bytes lines none = opened-no-flags path bytes lines none
 
 -- and after a command without a list
 pub kept-unflagged : NoFlagsAreKept → (v : Version) (c : Command) (e : editor.State) (given : Option Answer) (o : Outcome) → command e c given ≡ Ok (Makes o) →
     is_global c.verb ≡ false → IsUnflagged v e → IsUnflagged v o.state
 kept-unflagged k version.One c e given o is single none = tt
 kept-unflagged k version.Two c e given o is single none = k c e given o is single none
+kept-unflagged k version.Three c e given o is single none = k c e given o is single none

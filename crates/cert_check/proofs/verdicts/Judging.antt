@@ -1,13 +1,13 @@
 -- The verdict, one command further.
-use Rattle.std.proofs.Common.{◌≡◌, ◌<◌, ℕ, suc, ◌+◌, Bool, true, false, not, ◌&&◌, ◌||◌, List, [], ◌∷◌, length, map, get_or, drop, Option, None, Some, is_none, Result, Ok, Err, IfOk, cond, arith, IsTrue, refl, ◌∙◌, sym, ap, subst, add-one}
+use Rattle.std.proofs.Common.{◌≡◌, ◌<◌, ℕ, suc, ◌+◌, Bool, true, false, not, ◌&&◌, ◌||◌, List, [], ◌∷◌, length, map, get_or, drop, Option, None, Some, MatchOption, is_none, Result, Ok, Err, IfOk, cond, arith, IsTrue, refl, ◌∙◌, sym, ap, subst, add-one}
 use Rattle.std.proofs.lemmas.Bool.{and_parts}
 use Rattle.std.proofs.lemmas.List.{drop-map, length-map, drop_all}
 use Rattle.ed_syntax.specs.declared.command.Command as public_command
 use Rattle.ed_syntax.specs.Commands.{Command, Step, Script}
 use Rattle.ed_syntax.specs.PublicTypes.{command_value, step_value, steps_value}
 use Rattle.ed_rules.specs.declared.state.State.{State}
-use Rattle.ed_rules.specs.States.{start}
 use Rattle.cert_check.specs.checker.Covering.{covers}
+use Rattle.cert_check.specs.checker.Beginning.{chains_of, has_letters, start_of}
 use Rattle.cert_check.specs.declared.certificate.Note as public
 use Rattle.cert_check.specs.declared.checker.verdict.Place.{Place}
 use Rattle.cert_check.specs.declared.checker.verdict.Verdict.{Verdict}
@@ -321,47 +321,68 @@ pub sound-by : {E : Type 0} (r : Result Verdict E) (script : Script) (c : Certif
 sound-by (Ok answer) script c law stands is = λ e. law script c stands (sym is ∙ e)
 sound-by (Err f) script c law stands is = tt
 
--- the verdict by what the checker finds: notes in another shape, a command's check that fails, or the end
+-- the verdict by what the checker finds: notes in another shape, a landmark without a letter, a command's check that fails, or the end
+-- the checks after those at 0
+abbrev checks_after_start : Script → Certificate → List Check
+checks_after_start script c =
+    let w = seen_by script c in
+    checks_from w c.writes (end_checks (has_quit script.steps) script.fault c) 1 (told w (start_of script c)) (counted script.steps) c.notes
+
+abbrev checks_of_start : Script → Certificate → List Check
+checks_of_start script c = at 0 (has_letters script (chains_of c)) ∷ checks_after_start script c
+
 judged-shape : (script : Script) (c : Certificate) → are_shaped (counted script.steps) c.notes ≡ false →
     judged script c ≡ verdict_at 0 false
-judged-shape script c e =
-    let w : Sight = seen_by script c in
-    fails-at (are_shaped (counted script.steps) c.notes) (command_at 0)
-    (checks_from w c.writes (end_checks (has_quit script.steps) script.fault c) 1 (told w (start c.path c.min c.max c.has))
-    (counted script.steps) c.notes) e
+judged-shape script c e = fails-at (are_shaped (counted script.steps) c.notes) (command_at 0) (checks_of_start script c) e
 
-judged-fails : (script : Script) (c : Certificate) (place : Place) (t : State) → are_shaped (counted script.steps) c.notes ≡ true →
-    GoesTo (seen_by script c) c.writes (counted script.steps) c.notes (told (seen_by script c) (start c.path c.min c.max c.has))
-    (Some place) t → judged script c ≡ Refused place
-judged-fails script c place t shaped goes =
-    let w : Sight = seen_by script c in
-    let end : ℕ → State → List Check = end_checks (has_quit script.steps) script.fault c in
-    holds-at (are_shaped (counted script.steps) c.notes) (command_at 0)
-    (checks_from w c.writes end 1 (told w (start c.path c.min c.max c.has)) (counted script.steps) c.notes) shaped
-    ∙ goes end
+judged-letters : (script : Script) (c : Certificate) → are_shaped (counted script.steps) c.notes ≡ true →
+    has_letters script (chains_of c) ≡ false → judged script c ≡ verdict_at 0 false
+judged-letters script c shaped e =
+    holds-at (are_shaped (counted script.steps) c.notes) (command_at 0) (checks_of_start script c) shaped
+    ∙ fails-at (has_letters script (chains_of c)) (command_at 0) (checks_after_start script c) e
 
-judged-left : (script : Script) (c : Certificate) (t : State) → are_shaped (counted script.steps) c.notes ≡ true →
-    GoesTo (seen_by script c) c.writes (counted script.steps) c.notes (told (seen_by script c) (start c.path c.min c.max c.has)) None t →
-    judged script c ≡ verdict_at (length c.notes + 1) (ends_well (has_quit script.steps) script.fault c t)
-judged-left script c t shaped goes =
-    let w : Sight = seen_by script c in
-    let end : ℕ → State → List Check = end_checks (has_quit script.steps) script.fault c in
-    holds-at (are_shaped (counted script.steps) c.notes) (command_at 0)
-    (checks_from w c.writes end 1 (told w (start c.path c.min c.max c.has)) (counted script.steps) c.notes) shaped
-    ∙ goes end ∙ end-verdict (has_quit script.steps) script.fault c (length c.notes + 1) t
+-- where both checks at 0 hold, it is that of the checks after them
+module _ (script : Script) (c : Certificate) (shaped : are_shaped (counted script.steps) c.notes ≡ true)
+    (lettered : has_letters script (chains_of c) ≡ true) where
+  abbrev w : Sight
+  w = seen_by script c
 
-judged-passage : (script : Script) (c : Certificate) (failed : Option Place) (t : State) →
-    are_shaped (counted script.steps) c.notes ≡ true →
-    GoesTo (seen_by script c) c.writes (counted script.steps) c.notes (told (seen_by script c) (start c.path c.min c.max c.has)) failed
-    t → judged script c ≡ verdict_after failed t (has_quit script.steps) script.fault c
-judged-passage script c None t shaped goes = judged-left script c t shaped goes
-judged-passage script c (Some place) t shaped goes = judged-fails script c place t shaped goes
+  abbrev end : ℕ → State → List Check
+  end = end_checks (has_quit script.steps) script.fault c
+
+  judged-later : judged script c ≡ verdict_of (checks_after_start script c)
+  judged-later =
+      holds-at (are_shaped (counted script.steps) c.notes) (command_at 0) (checks_of_start script c) shaped
+      ∙ holds-at (has_letters script (chains_of c)) (command_at 0) (checks_after_start script c) lettered
+
+  judged-passage : (failed : Option Place) (t : State) →
+      GoesTo w c.writes (counted script.steps) c.notes (told w (start_of script c)) failed t →
+      judged script c ≡ verdict_after failed t (has_quit script.steps) script.fault c
+  judged-passage None t goes =
+      judged-later ∙ goes end ∙ end-verdict (has_quit script.steps) script.fault c (length c.notes + 1) t
+  judged-passage (Some place) t goes = judged-later ∙ goes end
+
+-- what the checker finds of the start: there is none where a landmark has no letter
+abbrev StartsSo : Script → Certificate → Option State → Type 0
+StartsSo script c o =
+    MatchOption o (has_letters script (chains_of c) ≡ false) (λ s. (has_letters script (chains_of c) ≡ true) × (s ≡ start_of script c))
+
+pub starts-none : (script : Script) (c : Certificate) (o : Option State) → o ≡ None → StartsSo script c o →
+    has_letters script (chains_of c) ≡ false
+starts-none script c None is h = h
+starts-none script c (Some s) is h = absurd cc
+
+pub starts-some : (script : Script) (c : Certificate) (o : Option State) (s : State) → o ≡ Some s → StartsSo script c o →
+    (has_letters script (chains_of c) ≡ true) × (s ≡ start_of script c)
+starts-some script c o s is h = subst (StartsSo script c) is h
 
 pub judged-by : (script : Script) (c : Certificate) (w : Sight) (writes : List (List ℕ)) (xs : List Step) (notes : List Note) (s : State)
     (quit : Bool) (failed : Option Place) (t : State) → w ≡ seen_by script c → writes ≡ c.writes → xs ≡ counted script.steps →
-    notes ≡ c.notes → s ≡ told w (start c.path c.min c.max c.has) → quit ≡ has_quit script.steps →
-    are_shaped xs notes ≡ true → GoesTo w writes xs notes s failed t → verdict_after failed t quit script.fault c ≡ judged script c
-judged-by script c w writes xs notes s quit failed t same_sight same_writes same_steps same_notes same_start same_quit shaped goes =
+    notes ≡ c.notes → s ≡ told w (start_of script c) → quit ≡ has_quit script.steps → are_shaped xs notes ≡ true →
+    has_letters script (chains_of c) ≡ true → GoesTo w writes xs notes s failed t →
+    verdict_after failed t quit script.fault c ≡ judged script c
+judged-by script c w writes xs notes s quit failed t same_sight same_writes same_steps same_notes same_start same_quit shaped lettered
+    goes =
     let shape : are_shaped (counted script.steps) c.notes ≡ true =
     subst (λ (ns : List Note). are_shaped (counted script.steps) ns ≡ true) same_notes
     (subst (λ (ys : List Step). are_shaped ys notes ≡ true) same_steps shaped) in
@@ -370,8 +391,8 @@ judged-by script c w writes xs notes s quit failed t same_sight same_writes same
     let by_notes = subst (λ (ns : List Note). GoesTo w c.writes (counted script.steps) ns s failed t) same_notes by_steps in
     let by_start = subst (λ (u : State). GoesTo w c.writes (counted script.steps) c.notes u failed t) same_start by_notes in
     ap (λ (q : Bool). verdict_after failed t q script.fault c) same_quit
-    ∙ sym (judged-passage script c failed t shape
-    (subst (λ (v : Sight). GoesTo v c.writes (counted script.steps) c.notes (told v (start c.path c.min c.max c.has)) failed t) same_sight
+    ∙ sym (judged-passage script c shape lettered failed t
+    (subst (λ (v : Sight). GoesTo v c.writes (counted script.steps) c.notes (told v (start_of script c)) failed t) same_sight
     by_start))
 
 pub judged-by_shape : (script : Script) (c : Certificate) (xs : List Step) (notes : List Note) → xs ≡ counted script.steps →
@@ -380,3 +401,10 @@ judged-by_shape script c xs notes same_steps same_notes e =
     judged-shape script c
     (subst (λ (ns : List Note). are_shaped (counted script.steps) ns ≡ false) same_notes
     (subst (λ (ys : List Step). are_shaped ys notes ≡ false) same_steps e))
+
+pub judged-by_letters : (script : Script) (c : Certificate) (xs : List Step) (notes : List Note) → xs ≡ counted script.steps →
+    notes ≡ c.notes → are_shaped xs notes ≡ true → has_letters script (chains_of c) ≡ false → judged script c ≡ verdict_at 0 false
+judged-by_letters script c xs notes same_steps same_notes shaped e =
+    judged-letters script c
+    (subst (λ (ns : List Note). are_shaped (counted script.steps) ns ≡ true) same_notes
+    (subst (λ (ys : List Step). are_shaped ys notes ≡ true) same_steps shaped)) e

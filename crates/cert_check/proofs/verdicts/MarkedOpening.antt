@@ -27,7 +27,7 @@ matched-same lines others (pattern ∷ patterns) same =
     (matched-texts others pattern ∙ ap (λ (ts : List (List ℕ)). list_any (matches pattern) ts) same ∙ sym (matched-texts lines pattern))
     ∙ ap (λ b. is_matched lines pattern && b) (matched-same lines others patterns same)
 
-texts-plain : (text : List (List ℕ)) → texts (map plain_line text) ≡ text
+pub texts-plain : (text : List (List ℕ)) → texts (map plain_line text) ≡ text
 texts-plain [] = refl
 texts-plain (t ∷ text) = ap (λ l. t ∷ l) (texts-plain text)
 

@@ -8,13 +8,13 @@ use Rattle.ed_base.specs.Buffer.{Line, plain_line}
 use Rattle.ed_base.specs.Lines.{lines_of}
 use Rattle.zones.specs.Zone.{Bounds, Numbers, Holds, updated}
 use Rattle.zones.specs.Steps.{any_zone, after_guard}
-use Rattle.zones.proofs.Known.{updated-other}
 use Rattle.zones.proofs.Soundness.{Holds-any_zone, Holds-after_guard, Holds-after_set}
 use Rattle.ed_syntax.specs.meaning.CommandLaws.{FilesAreWellMarked, FilesAreWhole}
 use Rattle.ed_syntax.specs.meaning.Values.{matches}
 use Rattle.ed_rules.specs.Matched.{is_matched, AreMatched}
 use Rattle.ed_rules.specs.States.{limited, start}
-use Rattle.ed_rules.specs.LineBounds.{IsAtMost}
+use Rattle.ed_rules.specs.Choices.{Choice}
+use Rattle.ed_rules.specs.LineBounds.{IsAtMost, IsWithin}
 use Rattle.cert_check.specs.checker.Opening.{Match, StartIsSound}
 use Rattle.ed_rules.proofs.Choosing.{has_choice-only}
 use Rattle.ed_rules.proofs.sound.LettersInLines.{no_letter}
@@ -43,6 +43,18 @@ matched-same (pattern ∷ patterns) texts =
 lines-match : (patterns texts : List (List ℕ)) → Match patterns texts → AreMatched patterns (map plain_line texts)
 lines-match patterns texts h = sym (matched-same patterns texts) ∙ h
 
+-- the bounds at the start hold of all numbers that are those of so many lines, the last one current
+pub start-holds : (path : Choice) (min : ℕ) (max : Option ℕ) (has : List (List ℕ)) (count : ℕ) (v : Numbers) →
+    IsWithin min max count → v 0 ≡ pos 0 → v 1 ≡ pos count → v 2 ≡ pos count → Holds (start path min max has).zone v
+unfolding start
+start-holds path min max has count v within zero_is current_is last_is =
+    let begun = after_guard any_zone 0 2 (neg_ℤ (pos min)) in
+    let least : min ≤ count = within.0 in
+    let holds : Holds (limited max begun) v =
+    limited-holds max begun count v within.1 zero_is last_is
+    (Holds-after_guard any_zone 0 2 (neg_ℤ (pos min)) v (omega arith) (omega arith) (Holds-any_zone v) (omega (arith, ints))) in
+    Holds-after_set (limited max begun) 1 2 (pos 0) v v (omega arith) (omega arith) holds (λ p other. refl) (omega (arith, ints))
+
 pub start-sound : FilesAreWellMarked → FilesAreWhole → StartIsSound
 unfolding start
 start-sound marked whole path min max has bytes within matched =
@@ -50,19 +62,13 @@ start-sound marked whole path min max has bytes within matched =
     let lines : List Line = map plain_line texts in
     let count : ℕ = length lines in
     let size : count ≡ length texts = length-map texts plain_line in
-    let v : Numbers = updated (λ (_ : ℕ). pos 0) 2 (pos count) in
-    let w : Numbers = updated v 1 (pos count) in
-    let begun = after_guard any_zone 0 2 (neg_ℤ (pos min)) in
-    let least : min ≤ length texts = within.0 in
-    let atmost : IsAtMost count max = subst (λ (n : ℕ). IsAtMost n max) (sym size) within.1 in
-    let holds : Holds (limited max begun) v =
-    limited-holds max begun count v atmost refl refl
-    (Holds-after_guard any_zone 0 2 (neg_ℤ (pos min)) v (omega arith) (omega arith) (Holds-any_zone v) (omega (arith, ints))) in
+    let w : Numbers = updated (updated (λ (_ : ℕ). pos 0) 2 (pos count)) 1 (pos count) in
+    let fits : IsWithin min max count = subst (λ (n : ℕ). IsWithin min max n) (sym size) within in
     record {
       numbers = w;
       stands = record {
         buffer = record {
-          holds = Holds-after_set (limited max begun) 1 2 (pos 0) v w (omega arith) (omega arith) holds (updated-other v 1 (pos count)) (omega (arith, ints));
+          holds = start-holds path min max has count w fits refl refl refl;
           reads = record { zero_is = refl; current_is = refl; last_is = refl; marks_are = λ letter l q. let f : false ≡ true = sym (no_letter 26 letter) ∙ q in absurd cc };
           inside = omega arith;
         };

@@ -81,6 +81,7 @@ stands-told version.One s e number st =
     record { buffer = st.buffer; remembered = st.remembered; changed = st.changed; past = past-without s.undo e.past st.past }
 stands-told version.Two s e number st =
     record { buffer = st.buffer; remembered = st.remembered; changed = st.changed; past = past-without s.undo e.past st.past }
+stands-told version.Three s e number st = st
 
 pub told-stands-by : (v : Version) (s : State) (e : editor.State) → StandsFor s e → StandsFor (told_by v s) e
 told-stands-by version.One s e st = record {
@@ -99,6 +100,7 @@ told-stands-by version.Two s e st = record {
   matches = st.matches;
   facts = nothing-holds st.numbers e.lines;
 }
+told-stands-by version.Three s e st = st
 
 pub told-stands : (w : Sight) (s : State) (e : editor.State) → StandsFor s e → StandsFor (told w s) e
 told-stands w s e st = told-stands-by w.version s e st

@@ -1,5 +1,5 @@
 -- A script with a valid certificate can't fail.
-use Rattle.std.proofs.Common.{◌≡◌, ℕ, List, [], ◌∷◌, map, length, Option, None, Some, IfSome, IsTrue, refl, sym, subst}
+use Rattle.std.proofs.Common.{◌≡◌, ℕ, true, List, [], ◌∷◌, map, length, Option, None, Some, IfSome, IsTrue, IsFalse, refl, sym, subst}
 use Rattle.std.proofs.lemmas.List.Elements.{All-nil, All-cons}
 use Rattle.ed_base.specs.Buffer.{plain_line}
 use Rattle.ed_base.specs.Lines.{lines_of}
@@ -10,7 +10,7 @@ use Rattle.ed_syntax.specs.Commands.{Script}
 use Rattle.ed_syntax.specs.meaning.States as editor
 use Rattle.ed_syntax.specs.meaning.States.{opening}
 use Rattle.ed_syntax.specs.meaning.Files.{loaded}
-use Rattle.ed_syntax.specs.meaning.Erasure.{marked}
+use Rattle.ed_syntax.specs.meaning.Erasure.{Marks, letters_of, marked, steps_name}
 use Rattle.ed_syntax.specs.meaning.ErasureLaws.{StartsMayBeMarked, MarkedLinesAreWell}
 use Rattle.ed_syntax.specs.meaning.Progress.{Present, Progress}
 use Rattle.ed_syntax.specs.meaning.Runs as runs
@@ -18,6 +18,9 @@ use Rattle.ed_syntax.specs.meaning.Runs.{Further, steps, present}
 use Rattle.ed_rules.specs.StandsFor.{StandsFor}
 use Rattle.ed_rules.specs.States.{start}
 use Rattle.ed_rules.specs.LineBounds.{IsWithin}
+use Rattle.landmarks.specs.ChainValues.{ChainValue}
+use Rattle.landmarks.specs.Starts.{AreEachAt, marks_at}
+use Rattle.cert_check.specs.checker.Beginning.{landmarks_of, stated_chains, chains_of, count_of, letters_of_chains, has_letters, began, start_of}
 use Rattle.cert_check.specs.checker.Opening.{opened, Match, StartIsSound}
 use Rattle.cert_check.specs.declared.certificate.Version.{Version}
 use Rattle.cert_check.specs.declared.certificate.Version.TheVariants as version
@@ -25,10 +28,12 @@ use Rattle.cert_check.specs.declared.checker.verdict.Verdict.TheVariants.{Accept
 use Rattle.cert_check.specs.declared.sight.Sight.{Sight}
 use Rattle.cert_check.specs.Certificates.{Certificate}
 use Rattle.cert_check.specs.checker.Valid.{sight_of, seen_by, told_by, told, counted, has_quit, are_shaped, judged}
-use Rattle.cert_check.specs.checker.Sound.{start_lines, IsAllowed, MayAsk, RunsWell, CannotFail, CannotFailInBounds}
+use Rattle.cert_check.specs.checker.Sound.{start_lines, IsAllowed, HaveLandmarks, MayAsk, RunsWell, CannotFail, CannotFailInBounds}
+use Rattle.cert_check.proofs.verdicts.Beginning.{LandmarkLaws, landmarks-stand}
 use Rattle.cert_check.proofs.verdicts.Checks.{first-holds}
-use Rattle.cert_check.specs.checker.MarkedStart.{opened_with, MarkedStartsSuffice}
+use Rattle.cert_check.specs.checker.MarkedStart.{opened_with, MarkedStartsSuffice, MarkedStartsStand}
 use Rattle.cert_check.proofs.verdicts.Flags.{lines-unflagged}
+use Rattle.cert_check.proofs.verdicts.Lettering.{are-free, are-unnamed}
 use Rattle.cert_check.proofs.verdicts.Running.{RunLaws, told-stands-by}
 use Rattle.cert_check.proofs.verdicts.Stepping.{steps-well}
 use Rattle.ed_syntax.specs.meaning.Verbs.{is_step}
@@ -57,66 +62,103 @@ start-well c (Some path) m go (answer.Refused ∷ later) new within h =
 start-well c (Some path) m go (answer.Done ∷ later) new within h =
     (All-cons (MayAsk c) (request.Read path) [] tt (All-nil (MayAsk c)), refl)
 
--- what the version tells of the start stands for such an editor
-started : StartIsSound → (v : Version) (path : Option (List ℕ)) (min : ℕ) (max : Option ℕ) (has : List (List ℕ))
-    (bytes : List ℕ) → IsWithin min max (length (lines_of bytes)) →
-    Match (elim v as (λ _. List (List ℕ)) [ version.One ↦ [] | version.Two ↦ has ]) (lines_of bytes) →
-    StandsFor (told_by v (start path min max has)) (opened path bytes)
-unfolding start
-started k version.One path min max has bytes within matched =
-    told-stands-by version.One (start path min max []) (opened path bytes) (k path min max [] bytes within refl)
-started k version.Two path min max has bytes within matched =
-    told-stands-by version.Two (start path min max has) (opened path bytes) (k path min max has bytes within matched)
-
-seen-version : (script : Script) (v : Version) (has : List (List ℕ)) → (sight_of script v has).version ≡ v
-seen-version script version.One has = refl
-seen-version script version.Two has = refl
-
 -- MARKED STARTS
 
 -- the run from lines with marks is the run from the lines
 pub marked-safe : RunLaws → StartsMayBeMarked → MarkedLinesAreWell → MarkedStartsSuffice
-marked-safe k erased lines w script c first marks stands shape h begun o answers same allowed =
+marked-safe k erased lines w script c first stands shape h begun o answers same allowed =
     let goes : OpensWell c c.path (steps script.steps script.fault) = λ bytes within m new more.
     let text : List (List ℕ) = lines_of bytes in
-    let e : editor.State = opened_with (marks bytes) c.path bytes in
     let known = begun bytes within in
+    let marks : Marks = known.0 in
+    let e : editor.State = opened_with marks c.path bytes in
     let well : RunsWell c (steps script.steps script.fault (runs.with_state e m) more) =
-    steps-well k w c script.fault (has_quit script.steps) script.steps 1 first c.notes refl stands shape h (runs.with_state e m) known.1
-    (lines-unflagged w.version c.path bytes (marked (marks bytes) (map plain_line text)) (lines (marks bytes) text).2) more in
+    steps-well k w c script.fault (has_quit script.steps) script.steps 1 first c.notes refl stands shape h (runs.with_state e m) known.2
+    (lines-unflagged w.version c.path bytes (marked marks (map plain_line text)) (lines marks text).2) more in
     let real : Present = runs.with_state (opened c.path bytes) m in
     let run : steps script.steps script.fault (runs.with_state e m) more ≡ steps script.steps script.fault real more =
-    erased (marks bytes) script.steps script.fault text real more known.0 refl refl refl in
+    erased marks script.steps script.fault text real more known.1 refl refl refl in
     subst (λ (u : editor.State). RunsWell c (steps script.steps script.fault (runs.with_state u m) more)) (sym new)
     (subst (λ (p : Progress). RunsWell c p) run well) in
     subst (λ (p : Option (List ℕ)). RunsWell c (runs.start p (present o) (steps script.steps script.fault) answers)) (sym same)
     (start-well c c.path (present o) (steps script.steps script.fault) answers refl allowed goes)
 
--- a start without marks is such a start
-pub accepted-safe : StartIsSound → MarkedStartsSuffice → (script : Script) (c : Certificate) →
+-- THE START OF A CERTIFICATE
+
+seen-version : (script : Script) (v : Version) (has : List (List ℕ)) → (sight_of script v has).version ≡ v
+seen-version script version.One has = refl
+seen-version script version.Two has = refl
+seen-version script version.Three has = refl
+
+-- What is told of a start stands for a file that is allowed, with the letters of its landmarks on its lines. The script names none of them.
+abbrev IsBegun : (script : Script) (v : Version) (has : List (List ℕ)) (chains : List ChainValue) (path : Option (List ℕ)) (min : ℕ)
+    (max : Option ℕ) (bytes : List ℕ) (marks : Marks) → Type 0
+IsBegun script v has chains path min max bytes marks =
+    let landmarks = stated_chains v chains in
+    IsFalse (steps_name (letters_of marks) script.steps)
+    × StandsFor (told_by v (began v (letters_of_chains script landmarks) landmarks (start path min max has))) (opened_with marks path bytes)
+
+-- the patterns that are stated
+abbrev said : Version → (has : List (List ℕ)) → List (List ℕ)
+said v has = elim v as (λ _. List (List ℕ)) [ version.One ↦ [] | version.Two ↦ has | version.Three ↦ has ]
+
+-- the marks of a start: where its landmarks are, in version 3
+abbrev marks_of : Script → Version → List ChainValue → (places : List ℕ) → Marks
+marks_of script version.One chains places = []
+marks_of script version.Two chains places = []
+marks_of script version.Three chains places = marks_at (letters_of_chains script (landmarks_of chains)) places
+
+begun : LandmarkLaws → StartIsSound → MarkedStartsStand → (script : Script) (v : Version) (has : List (List ℕ))
+    (chains : List ChainValue) (path : Option (List ℕ)) (min : ℕ) (max : Option ℕ) (bytes : List ℕ) (places : List ℕ) →
+    has_letters script (stated_chains v chains) ≡ true → IsWithin min max (length (lines_of bytes)) →
+    Match (said v has) (lines_of bytes) → AreEachAt (lines_of bytes) (stated_chains v chains) places →
+    IsBegun script v has chains path min max bytes (marks_of script v chains places)
+unfolding start
+begun laws sound stand script version.One has chains path min max bytes places enough within matched at =
+    (refl, told-stands-by version.One (start path min max []) (opened path bytes) (sound path min max [] bytes within refl))
+begun laws sound stand script version.Two has chains path min max bytes places enough within matched at =
+    (refl, told-stands-by version.Two (start path min max has) (opened path bytes) (sound path min max has bytes within matched))
+begun laws sound stand script version.Three has chains path min max bytes places enough within matched at =
+    let landmarks = landmarks_of chains in (
+      are-unnamed script 26 (letters_of_chains script landmarks) places (are-free script 26 (count_of landmarks)),
+      landmarks-stand laws sound stand script landmarks path min max has bytes places enough within matched at,
+    )
+
+pub accepted-safe : LandmarkLaws → StartIsSound → MarkedStartsStand → MarkedStartsSuffice → (script : Script) (c : Certificate) →
     IsTrue (list_all is_step script.steps) → judged script c ≡ Accepted → CannotFail script c
-accepted-safe sound suffice script c stands h =
+accepted-safe laws sound stand suffice script c stands h =
     let w : Sight = seen_by script c in
     let shape = first-holds (are_shaped (counted script.steps) c.notes) _ _ h in
-    suffice w script c (told w (start c.path c.min c.max c.has)) (λ bytes. []) stands shape.0 shape.1
-    (λ bytes within. (
-      refl,
-      subst (λ (v : Version). StandsFor (told_by v (start c.path c.min c.max c.has)) (opened c.path bytes))
-          (sym (seen-version script c.version c.has))
-          (started sound c.version c.path c.min c.max c.has bytes within.0 within.1),
+    let enough = first-holds (has_letters script (chains_of c)) _ _ shape.1 in
+    suffice w script c (told w (start_of script c)) stands shape.0 enough.1 (λ bytes within.
+    let places = within.2.0 in
+    let marks = marks_of script c.version c.landmarks places in
+    let begins = begun laws sound stand script c.version c.has c.landmarks c.path c.min c.max bytes places enough.0 within.0
+    within.1 within.2.1 in (
+      marks,
+      begins.0,
+      subst (λ (v : Version). StandsFor (told_by v (start_of script c)) (opened_with marks c.path bytes))
+          (sym (seen-version script c.version c.has)) begins.1,
     ))
 
 -- VERSION 1
 
 matched-nothing : (v : Version) (has lines : List (List ℕ)) → v ≡ version.One →
-    Match (elim v as (λ _. List (List ℕ)) [ version.One ↦ [] | version.Two ↦ has ]) lines
+    Match (said v has) lines
 matched-nothing version.One has lines is = refl
-matched-nothing version.Two has lines is = absurd cc
+matched-nothing _ has lines is = absurd cc
+
+-- in version 1 no landmarks are stated
+landmarks-nothing : (v : Version) (chains : List ChainValue) (lines : List (List ℕ)) → v ≡ version.One →
+    HaveLandmarks lines (stated_chains v chains)
+landmarks-nothing version.One chains lines is = ([], AreEachAt.over)
+landmarks-nothing _ chains lines is = absurd cc
 
 -- a start is allowed where its number of lines lies in the bounds
 pub within-allowed : (c : Certificate) (lines : List (List ℕ)) → c.version ≡ version.One → IsWithin c.min c.max (length lines) →
     IsAllowed c lines
-within-allowed c lines one within = (within, matched-nothing c.version c.has lines one)
+within-allowed c lines one within =
+    (within, matched-nothing c.version c.has lines one, landmarks-nothing c.version c.landmarks lines one)
 
 some-allowed : (c : Certificate) (lines : Option (List (List ℕ))) → c.version ≡ version.One →
     IfSome lines (λ found. IsWithin c.min c.max (length found)) → IfSome lines (IsAllowed c)

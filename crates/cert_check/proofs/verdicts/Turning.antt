@@ -52,6 +52,7 @@ pub record ListLaws : Type 0 where
 abbrev pub tested : Version → Verb → Verb
 tested version.One verb = ed.QuitAnyway
 tested version.Two verb = verb
+tested version.Three verb = verb
 
 all-taken : (ls : List Line) → FlaggedPass (is_taken_by ed.QuitAnyway) ls
 all-taken [] = All-nil (λ (line : Line). line.flag ≡ true → is_taken_by ed.QuitAnyway line.bytes ≡ true)
@@ -63,12 +64,14 @@ first-taken : TakenHaveFlags → (v : Version) (c : Command) (e : editor.State) 
     FlaggedPass (is_taken_by (tested v c.verb)) o.state.lines
 first-taken k version.One c e given o is g none = all-taken o.state.lines
 first-taken k version.Two c e given o is g none = k c e given o is g none
+first-taken k version.Three c e given o is g none = k c e given o is g none
 
 -- what the version tells of the list's first state stands for the editor with a line that was taken
 entry-stands : (v : Version) (verb : Verb) (invariant : State) (e : editor.State) → StandsFor (body_entry (tested v verb) invariant) e →
     StandsFor (told_by v (body_entry verb invariant)) e
 entry-stands version.One verb invariant e st = told-stands-by version.One (body_entry ed.QuitAnyway invariant) e st
 entry-stands version.Two verb invariant e st = told-stands-by version.Two (body_entry verb invariant) e st
+entry-stands version.Three verb invariant e st = told-stands-by version.Three (body_entry verb invariant) e st
 
 -- The global command that is open began where the editor was in this state, and knows of a change only where its list may make one. The
 -- lines that have its flag pass a test, and are at most so many.

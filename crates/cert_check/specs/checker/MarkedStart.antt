@@ -26,15 +26,15 @@ use Rattle.cert_check.specs.checker.Valid.{verdict_of, counted, has_quit, end_ch
 abbrev pub opened_with : Marks → (path : Choice) → (bytes : List ℕ) → editor.State
 opened_with marks path bytes = record (opened path bytes) { lines = marked marks (map plain_line (lines_of bytes)) }
 
--- Marks for each file, by letters that the script doesn't name: where a state stands for each allowed file with its marks, and all
--- checks from that state on are accepted, the script can't fail, though its real runs begin without these marks.
+-- Where a state stands for each allowed file with marks of letters that the script doesn't name, and all checks from that state on are
+-- accepted, the script can't fail, though its real runs begin without these marks.
 abbrev pub MarkedStartsSuffice : Type 0
-MarkedStartsSuffice = (w : Sight) (script : Script) (c : Certificate) (first : State) (marks : (bytes : List ℕ) → Marks) →
+MarkedStartsSuffice = (w : Sight) (script : Script) (c : Certificate) (first : State) →
     IsTrue (list_all is_step script.steps) →
     IsTrue (are_shaped (counted script.steps) c.notes) →
     verdict_of (checks_from w c.writes (end_checks (has_quit script.steps) script.fault c) 1 first (counted script.steps) c.notes) ≡ Accepted →
-    ((bytes : List ℕ) → IsAllowed c (lines_of bytes) → IsFalse (steps_name (letters_of (marks bytes)) script.steps) ×
-    StandsFor first (opened_with (marks bytes) c.path bytes)) →
+    ((bytes : List ℕ) → IsAllowed c (lines_of bytes) →
+    (marks : Marks) × IsFalse (steps_name (letters_of marks) script.steps) × StandsFor first (opened_with marks c.path bytes)) →
     CannotFail script c
 
 -- the numbers are those of a file's lines with these marks: each sure letter is one of the marks, and its number is that mark's line

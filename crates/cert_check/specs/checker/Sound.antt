@@ -17,11 +17,14 @@ use Rattle.ed_rules.specs.declared.state.State.{State}
 use Rattle.ed_rules.specs.GlobalSoundness.{HasNoFlags}
 use Rattle.ed_rules.specs.LineBounds.{IsWithin}
 use Rattle.ed_rules.specs.StandsFor.{StandsFor}
+use Rattle.landmarks.specs.declared.landmark.Landmark.{Landmark}
+use Rattle.landmarks.specs.Starts.{AreEachAt}
 use Rattle.cert_check.specs.declared.certificate.Version.{Version}
 use Rattle.cert_check.specs.declared.certificate.Version.TheVariants as version
 use Rattle.cert_check.specs.declared.checker.verdict.Verdict.TheVariants.{Accepted}
 use Rattle.cert_check.specs.declared.sight.Sight.{Sight}
 use Rattle.cert_check.specs.Certificates.{Note, Certificate}
+use Rattle.cert_check.specs.checker.Beginning.{chains_of}
 use Rattle.cert_check.specs.checker.Opening.{Match}
 use Rattle.cert_check.specs.checker.Valid.{Check, verdict_of, left_after, step_checks, fits}
 
@@ -34,11 +37,16 @@ start_lines (Some path) _ = None
 
 -- the patterns that a certificate states of its start; in version 1 there are none
 abbrev pub stated : Certificate → List (List ℕ)
-stated c = elim c.version [ version.One ↦ [] | version.Two ↦ c.has ]
+stated c = elim c.version [ version.One ↦ [] | version.Two ↦ c.has | version.Three ↦ c.has ]
 
--- a start that a certificate allows: its number of lines lies within the bounds, and each pattern that is stated is matched by one of them
+-- the landmarks of each of these chains are where they say
+abbrev pub HaveLandmarks : (lines : List (List ℕ)) → List (List Landmark) → Type 0
+HaveLandmarks lines chains = (places : List ℕ) × AreEachAt lines chains places
+
+-- A start that a certificate allows: its number of lines lies within the bounds, each pattern that is stated is matched by one of them, and
+-- the landmarks that are stated, of which versions 1 and 2 have none, are in it.
 abbrev pub IsAllowed : Certificate → (lines : List (List ℕ)) → Type 0
-IsAllowed c lines = IsWithin c.min c.max (length lines) × Match (stated c) lines
+IsAllowed c lines = IsWithin c.min c.max (length lines) × Match (stated c) lines × HaveLandmarks lines (chains_of c)
 
 -- any file may be read, and a listed one written
 abbrev pub MayAsk : Certificate → Request → Type 0
@@ -55,11 +63,12 @@ StopsWell c (Ends (Err f)) = f ≡ fault.File
 abbrev pub RunsWell : Certificate → Progress → Type 0
 RunsWell c p = All (MayAsk c) (asked_of p) × StopsWell c (stop_of p)
 
--- In version 2 no line has the flag of a global command when a step begins, as is so in each run: by its flag it is known of a line that
+-- In versions 2 and 3 no line has the flag of a global command when a step begins, as is so in each run: by its flag it is known of a line that
 -- `g` took it, so that it matches its pattern.
 abbrev pub IsUnflagged : Version → editor.State → Type 0
 IsUnflagged version.One e = Unit {0}
 IsUnflagged version.Two e = HasNoFlags e
+IsUnflagged version.Three e = HasNoFlags e
 
 -- what a run goes on with runs well from each editor that a state stands for
 abbrev pub GoesWell : Certificate → Sight → State → Further → Type 0

@@ -10,11 +10,12 @@ use Rattle.ed_syntax.specs.Commands.{Command, Step, Script}
 use Rattle.ed_syntax.specs.meaning.Verbs.{is_global, ends_run}
 use Rattle.ed_rules.specs.declared.state.State.{State}
 use Rattle.ed_rules.specs.Choices.{Choice}
-use Rattle.ed_rules.specs.States.{start, without_facts}
+use Rattle.ed_rules.specs.States.{without_facts}
 use Rattle.ed_rules.specs.Files.{written_paths}
 use Rattle.ed_rules.specs.Matched.{watched}
 use Rattle.ed_rules.specs.KnownMatches.{no_matches}
 use Rattle.cert_check.specs.checker.Covering.{covers}
+use Rattle.cert_check.specs.checker.Beginning.{chains_of, has_letters, start_of}
 use Rattle.ed_rules.specs.Rules.{step, fault_of}
 use Rattle.ed_rules.specs.Globals.{body_entry, loop_end}
 use Rattle.cert_check.specs.declared.checker.verdict.Place.{Place}
@@ -63,15 +64,17 @@ counted (x ∷ xs) = x ∷ (elim (ends_run x.command.verb) [ true ↦ [] | false
 abbrev pub sight_of : Script → Version → (has : List (List ℕ)) → Sight
 sight_of script version.One has = record { version = version.One; watch = [] }
 sight_of script version.Two has = record { version = version.Two; watch = watched script has }
+sight_of script version.Three has = record { version = version.Three; watch = watched script has }
 
 abbrev pub seen_by : Script → Certificate → Sight
 seen_by script c = sight_of script c.version c.has
 
--- A state that a rule gives, as far as the version tells it: version 1 tells nothing of matches, and no version anything of single
--- lines, which it doesn't follow.
+-- A state that a rule gives, as far as the version tells it: version 1 tells nothing of matches, and versions 1 and 2 tell nothing of single
+-- lines, which they don't follow. Version 3 tells all.
 abbrev pub told_by : Version → State → State
 told_by version.One s = record (without_facts s) { matches = no_matches }
 told_by version.Two s = without_facts s
+told_by version.Three s = s
 
 abbrev pub told : Sight → State → State
 told w s = told_by w.version s
@@ -166,12 +169,12 @@ are_shaped [] (n ∷ notes) = false
 are_shaped (x ∷ xs) [] = false
 are_shaped (x ∷ xs) (n ∷ notes) = fits x n && are_shaped xs notes
 
--- all checks of a certificate: the shape of its notes, and what follows from the start
+-- all checks of a certificate: the shape of its notes, a letter for each landmark, and what follows from the start
 abbrev pub checks : Script → Certificate → List Check
 checks script c =
     let w = seen_by script c in
-    at 0 (are_shaped (counted script.steps) c.notes)
-    ∷ checks_from w c.writes (end_checks (has_quit script.steps) script.fault c) 1 (told w (start c.path c.min c.max c.has)) (counted script.steps) c.notes
+    at 0 (are_shaped (counted script.steps) c.notes) ∷ at 0 (has_letters script (chains_of c))
+    ∷ checks_from w c.writes (end_checks (has_quit script.steps) script.fault c) 1 (told w (start_of script c)) (counted script.steps) c.notes
 
 -- the verdict on a certificate
 abbrev pub judged : Script → Certificate → Verdict

@@ -1,47 +1,15 @@
--- Facts of lines as lines of a certificate's text: which facts have them, and which lines these are.
-use Rattle.std.specs.Prelude.{◌≡◌, ◌<◌, ℕ, ◌==◌, Bool, true, false, not, ◌&&◌, ◌||◌, List, [], ◌∷◌, ◌++◌, map, Some, codes, if◌then◌else◌, All}
+-- Which facts of lines have lines in a certificate's text.
+use Rattle.std.specs.Prelude.{◌≡◌, ◌<◌, ℕ, ◌==◌, Bool, true, false, not, ◌&&◌, ◌||◌, List, [], ◌∷◌, All}
 use Rattle.std.specs.Ordering.{nat_cmp, is_lt, ordering_then}
 use Rattle.std.specs.Cmp.Lexicographic.{slice_cmp}
 use Rattle.std.specs.declared.cmp.Ordering.{Ordering}
 use Rattle.zones.specs.Name as name
+use Rattle.cert_check.specs.declared.certificate.Version.{Version}
+use Rattle.cert_check.specs.declared.certificate.Version.TheVariants.{One, Two, Three}
 use Rattle.ed_rules.specs.Formed.{has_name}
-use Rattle.ed_rules.specs.facts.Facts.{LineFact, Stretch, Facts, end}
-use Rattle.cert_check.specs.text.Text.{Word, Line, name_word, choice_word}
-
--- WHAT IS WRITTEN
-
--- a name of a stretch: that of a line, or the end
-abbrev pub edge_word : (place : ℕ) → Word
-edge_word place = if place == end then codes "$+" else name_word place
-
--- `+` for a line that matches, `-` for one that doesn't
-abbrev pub answer_word : Bool → Word
-answer_word true = codes "+"
-answer_word false = codes "-"
-
--- what is known of a line: its name, the sign, and the pattern as in other lines
-abbrev pub fact_word : LineFact → Word
-fact_word f = name_word f.name ++ answer_word f.matches ++ choice_word (Some f.pattern)
-
--- between which names no line matches, and what
-abbrev pub stretch_word : Stretch → Word
-stretch_word s = edge_word s.after ++ codes "-" ++ edge_word s.before ++ choice_word (Some s.pattern)
-
-abbrev pub known_line : (key : Word) → List LineFact → Line
-known_line key facts = key ∷ map fact_word facts
-
-abbrev pub clear_line : (key : Word) → List Stretch → Line
-clear_line key stretches = key ∷ map stretch_word stretches
-
--- the two lines of facts
-abbrev pub facts_lines : Facts → List Line
-facts_lines facts = known_line (codes "lines") facts.lines ∷ clear_line (codes "clear") facts.clear ∷ []
-
--- and of those of an earlier buffer
-abbrev pub old_facts_lines : Facts → List Line
-old_facts_lines facts = known_line (codes "old-lines") facts.lines ∷ clear_line (codes "old-clear") facts.clear ∷ []
-
--- WHICH FACTS ARE WRITTEN
+use Rattle.ed_rules.specs.facts.Facts.{LineFact, Stretch, Facts, end, no_facts}
+-- which lines these are
+pub use Rattle.cert_check.specs.text.Text.{edge_word, answer_word, fact_word, stretch_word, known_line, clear_line, facts_lines, old_facts_lines}
 
 -- a text is bytes
 abbrev pub AreBytes : List ℕ → Type 0
@@ -98,3 +66,9 @@ pub record ClearAreFormed (marks : List Bool) (stretches : List Stretch) : Type 
 pub record FactsAreFormed (marks : List Bool) (facts : Facts) : Type 0 where
   pub known : KnownAreFormed marks facts.lines
   pub clear : ClearAreFormed marks facts.clear
+
+-- what is told of lines beside these letters: from version 3 on facts that have lines, and nothing before
+abbrev pub AreToldIn : Version → List Bool → Facts → Type 0
+AreToldIn One marks facts = facts ≡ no_facts
+AreToldIn Two marks facts = facts ≡ no_facts
+AreToldIn Three marks facts = FactsAreFormed marks facts

@@ -8,7 +8,7 @@ use Rattle.ed_rules.specs.declared.state.Changed.{Changed}
 use Rattle.ed_rules.specs.declared.state.Replacements.{Replacements}
 use Rattle.ed_rules.specs.declared.state.State.{State}
 use Rattle.ed_rules.specs.Formed.{ZoneIsFormed}
-use Rattle.ed_rules.specs.facts.Facts.{no_facts}
+use Rattle.ed_rules.specs.facts.Facts.{Facts}
 use Rattle.ed_rules.specs.LineBounds.{is_few, is_limit, is_within}
 use Rattle.cert_check.specs.declared.text.cursor.Head.{Head}
 use Rattle.cert_check.specs.declared.text.cursor.Head.TheVariants.{AnotherNote, Loop, End}
@@ -17,18 +17,20 @@ use Rattle.cert_check.specs.declared.text.fault.CertFault.TheVariants as fault
 use Rattle.cert_check.specs.declared.text.fault.Unread.{Unread}
 use Rattle.cert_check.specs.declared.text.fault.Unread.TheVariants.{Version, Line, Size, Memory}
 use Rattle.cert_check.specs.declared.text.lines.Found.{Found}
-use Rattle.cert_check.specs.declared.text.states.Marked.{Marked}
+use Rattle.cert_check.specs.declared.text.states.Buffer as buffers
+use Rattle.cert_check.specs.declared.text.states.BufferKinds.{BufferKinds}
 use Rattle.cert_check.specs.declared.text.wanted.Wanted.{Wanted}
 use Rattle.cert_check.specs.declared.certificate.Version as versions
 use Rattle.cert_check.specs.declared.certificate.Certificate as public
 use Rattle.cert_check.specs.declared.certificate.Note as note
 use Rattle.cert_check.specs.Certificates.{Looped, Note, Certificate, note_value, certificate_value}
 use Rattle.cert_check.specs.text.Text as text
-use Rattle.cert_check.specs.text.Text.{Word, line_text, zone_line, marks_line, undo_line, texts_line, matched_lines, old_lines, state_lines, headed_lines, looped_lines, note_lines, path_line, bounds_line}
+use Rattle.cert_check.specs.text.Text.{Word, line_text, BufferKeys, known_line, clear_line, undo_line, texts_line, matched_lines, told_lines, chains_lines, old_lines, state_lines, headed_lines, looped_lines, note_lines, path_line, bounds_line}
 use Rattle.cert_check.specs.text.Reading.{undo_words_line}
-use Rattle.cert_check.specs.text.HasText.{OldIsSaidIn, StateHasText, NoteHasText, HasText, IsText}
+use Rattle.cert_check.specs.text.HasText.{IsSaidIn, StateHasText, NoteHasText, HasText, IsText}
+use Rattle.cert_check.specs.text.FactsText.{AreToldIn}
 use Rattle.cert_check.specs.text.Faults.{IsVersionFault, IsSizeFault}
-use Rattle.cert_check.specs.text.Wanted.{keys, IsOfKind, SomeLine, IsWanted}
+use Rattle.cert_check.specs.text.Wanted.{key, other_keys, keys, IsOfKind, SomeLine, IsWanted}
 
 -- where a reader stands: the bytes that are left, and how many lines stand above them
 pub record Left : Type 0 where
@@ -156,21 +158,43 @@ head_line AnotherNote = codes "note" ∷ []
 head_line Loop = codes "loop" ∷ []
 head_line End = codes "end" ∷ []
 
--- a zone and its marks
-abbrev pub marked_lines : (zone_key marks_key : Word) → Old → List text.Line
-marked_lines zone_key marks_key old = zone_line zone_key old.zone ∷ marks_line marks_key old.marks ∷ []
+-- what some line of a buffer matches, and what is known of its lines
+abbrev pub known_lines : versions.Version → BufferKeys → List (List ℕ) × Facts → List text.Line
+known_lines version keys known = matched_lines version keys.has known.0 ++ told_lines version keys.lines keys.clear known.1
 
--- a zone and its marks as an earlier buffer, of whose single lines nothing is said
-abbrev pub marked_value : Marked → Old
-marked_value m = record { zone = m.zone; marks = m.marks; facts = no_facts }
+-- the two lines of facts
+abbrev pub both_lines : (known_key clear_key : Word) → Facts → List text.Line
+both_lines known_key clear_key facts = known_line known_key facts.lines ∷ clear_line clear_key facts.clear ∷ []
 
-abbrev pub MarkedIsFormed : Old → Type 0
-MarkedIsFormed old = ZoneIsFormed old.marks old.zone × (old.facts ≡ no_facts)
+-- a buffer as it is read
+abbrev pub buffer_value : buffers.Buffer → Old × List (List ℕ)
+buffer_value b = (record { zone = b.zone; marks = b.marks; facts = b.facts }, b.has)
 
--- the same of an earlier buffer, where there is one
-abbrev pub EarlierIsFormed : Option Old → Type 0
-EarlierIsFormed None = Unit {0}
-EarlierIsFormed (Some old) = MarkedIsFormed old
+abbrev pub BufferIsFormed : versions.Version → Old × List (List ℕ) → Type 0
+BufferIsFormed version buffer =
+    ZoneIsFormed buffer.0.marks buffer.0.zone × (IsSaidIn version buffer.1 × AreToldIn version buffer.0.marks buffer.0.facts)
+
+-- the kinds of a buffer's lines, each of which begins with one word
+abbrev pub keys_of : BufferKinds → BufferKeys
+keys_of kinds = record {
+  zone = key kinds.zone;
+  marks = key kinds.marks;
+  has = key kinds.has;
+  lines = key kinds.lines;
+  clear = key kinds.clear;
+}
+
+pub record AreAlone (kinds : BufferKinds) : Type 0 where
+  pub zone : other_keys kinds.zone ≡ []
+  pub marks : other_keys kinds.marks ≡ []
+  pub has : other_keys kinds.has ≡ []
+  pub lines : other_keys kinds.lines ≡ []
+  pub clear : other_keys kinds.clear ≡ []
+
+-- an earlier buffer, where there is one
+abbrev pub EarlierIsFormed : versions.Version → Option Old → (has : List (List ℕ)) → Type 0
+EarlierIsFormed version None has = has ≡ []
+EarlierIsFormed version (Some old) has = BufferIsFormed version (old, has)
 
 -- what undo may find, and what some line of an earlier buffer matches
 abbrev pub undo_lines : versions.Version → Undo × List (List ℕ) → List text.Line
@@ -178,8 +202,7 @@ undo_lines version found = undo_line found.0 ∷ old_lines version found.0.was f
 
 abbrev pub UndoIsFormed : versions.Version → Undo × List (List ℕ) → Type 0
 UndoIsFormed version found =
-    ((found.0.nothing || found.0.same || is_some found.0.was) ≡ true)
-    × (EarlierIsFormed found.0.was × OldIsSaidIn version found.0.was found.1)
+    ((found.0.nothing || found.0.same || is_some found.0.was) ≡ true) × EarlierIsFormed version found.0.was found.1
 
 -- the states of a list's commands, and the end of the list
 abbrev pub inner_lines : versions.Version → List State → List text.Line
@@ -212,7 +235,7 @@ noted_value noted = (note_value noted.0, noted.1)
 abbrev pub rest_lines : Certificate → List text.Line
 rest_lines c =
     path_line c.path ∷ bounds_line (codes "start") c.min c.max ∷ matched_lines c.version (codes "has") c.has
-    ++ (notes_lines c.version c.notes ++ (state_lines c.version c.last ++ bounds_line (codes "final") c.low c.high ∷ texts_line (codes "writes") c.writes ∷ []))
+    ++ (chains_lines c.version c.landmarks ++ (notes_lines c.version c.notes ++ (state_lines c.version c.last ++ bounds_line (codes "final") c.low c.high ∷ texts_line (codes "writes") c.writes ∷ [])))
 
 -- a certificate of this version that has a text
 abbrev pub HasTextIn : versions.Version → Certificate → Type 0

@@ -1,9 +1,11 @@
 -- How a text is read: what the functions that read it answer.
-use Rattle.std.specs.Prelude.{◌≡◌, ◌≢◌, ℕ, ◌<◌, ◌≤◌, ◌^◌, ◌/◌, ◌%◌, ◌⊎◌, ℤ, Bool, true, not, ◌==◌, List, [], ◌∷◌, ◌++◌, Option, Some, None, codes, replicate}
+use Rattle.std.specs.Prelude.{◌≡◌, ◌≢◌, ℕ, ◌<◌, ◌≤◌, ◌^◌, ◌/◌, ◌%◌, ◌⊎◌, ℤ, Bool, true, not, ◌==◌, List, [], ◌∷◌, ◌++◌, Option, Some, None, codes, replicate, map, All}
 use Rattle.std.specs.Fmt.{signed_decimal}
 use lib.Signed.{mag}
 use Rattle.zones.specs.Bound.{IsKept}
 use Rattle.zones.specs.KnownBounds.{PlacedBound}
+use Rattle.landmarks.specs.ChainValues.{ChainValue}
+use Rattle.landmarks.specs.Spelled.{SpellsChain}
 use Rattle.cert_check.specs.text.Text.{Word, Line, space, line_text, name_word, possible}
 
 -- what a line is read as: the value whose line it is, or that there is none
@@ -82,3 +84,10 @@ pub record IsSpoken (b : PlacedBound) : Type 0 where
   pub kept : IsKept b.bound
   pub row : IsNamed (b.place / 32)
   pub column : IsNamed (b.place % 32)
+
+-- what texts are read as: the chains that they spell, one for each, or that some text spells none
+abbrev pub AreChains : (texts : List (List ℕ)) → Option (List ChainValue) → Type 0
+AreChains texts (Some chains) =
+    (map (λ chain. chain.text) chains ≡ texts) × All (λ chain. SpellsChain chain.text chain.landmarks) chains
+AreChains texts None =
+    (chains : List ChainValue) → All (λ chain. SpellsChain chain.text chain.landmarks) chains → map (λ chain. chain.text) chains ≢ texts

@@ -13,8 +13,10 @@ use Rattle.ed_rules.specs.declared.state.Undo.{Undo}
 use Rattle.ed_rules.specs.declared.state.State.{State}
 use Rattle.ed_rules.specs.Choices.{Choice}
 use Rattle.ed_rules.specs.Formed.{says_nothing}
+use Rattle.ed_rules.specs.facts.Facts.{LineFact, Stretch, Facts, end}
+use Rattle.landmarks.specs.ChainValues.{ChainValue}
 use Rattle.cert_check.specs.declared.certificate.Version.{Version}
-use Rattle.cert_check.specs.declared.certificate.Version.TheVariants.{One, Two}
+use Rattle.cert_check.specs.declared.certificate.Version.TheVariants.{One, Two, Three}
 use Rattle.cert_check.specs.Certificates.{Looped, Note, Certificate}
 
 -- A word is some bytes, and a line its words. Those of a certificate have no space or newline in them.
@@ -124,25 +126,94 @@ undo_line u = codes "undo" ∷ possible u.nothing (codes "nothing") ++ possible 
 abbrev pub texts_line : (key : Word) → List (List ℕ) → Line
 texts_line key texts = choices_line key (map Some texts)
 
--- what some line matches is said in version 2 alone
+-- a name of a stretch: that of a line, or the end
+abbrev pub edge_word : (place : ℕ) → Word
+edge_word place = if place == end then codes "$+" else name_word place
+
+-- `+` for a line that matches, `-` for one that doesn't
+abbrev pub answer_word : Bool → Word
+answer_word true = codes "+"
+answer_word false = codes "-"
+
+-- what is known of a line: its name, the sign, and the pattern as in other lines
+abbrev pub fact_word : LineFact → Word
+fact_word f = name_word f.name ++ answer_word f.matches ++ choice_word (Some f.pattern)
+
+-- between which names no line matches, and what
+abbrev pub stretch_word : Stretch → Word
+stretch_word s = edge_word s.after ++ codes "-" ++ edge_word s.before ++ choice_word (Some s.pattern)
+
+abbrev pub known_line : (key : Word) → List LineFact → Line
+known_line key facts = key ∷ map fact_word facts
+
+abbrev pub clear_line : (key : Word) → List Stretch → Line
+clear_line key stretches = key ∷ map stretch_word stretches
+
+-- the two lines of facts
+abbrev pub facts_lines : Facts → List Line
+facts_lines facts = known_line (codes "lines") facts.lines ∷ clear_line (codes "clear") facts.clear ∷ []
+
+-- and of those of an earlier buffer
+abbrev pub old_facts_lines : Facts → List Line
+old_facts_lines facts = known_line (codes "old-lines") facts.lines ∷ clear_line (codes "old-clear") facts.clear ∷ []
+
+-- what some line matches is said from version 2 on
 abbrev pub matched_lines : Version → (key : Word) → List (List ℕ) → List Line
 matched_lines One key texts = []
 matched_lines Two key texts = texts_line key texts ∷ []
+matched_lines Three key texts = texts_line key texts ∷ []
+
+-- what is known of single lines is said in version 3 alone
+abbrev pub told_lines : Version → (known_key clear_key : Word) → Facts → List Line
+told_lines One known_key clear_key facts = []
+told_lines Two known_key clear_key facts = []
+told_lines Three known_key clear_key facts = known_line known_key facts.lines ∷ clear_line clear_key facts.clear ∷ []
+
+-- the words with which the lines on a buffer begin
+pub record BufferKeys : Type 0 where
+  pub zone : Word
+  pub marks : Word
+  pub has : Word
+  pub lines : Word
+  pub clear : Word
+
+-- those of a state's buffer
+abbrev pub own_keys : BufferKeys
+own_keys = record { zone = codes "zone"; marks = codes "marks"; has = codes "has"; lines = codes "lines"; clear = codes "clear" }
+
+-- and those of an earlier one
+abbrev pub earlier_keys : BufferKeys
+earlier_keys = record {
+  zone = codes "old-zone";
+  marks = codes "old-marks";
+  has = codes "old-has";
+  lines = codes "old-lines";
+  clear = codes "old-clear";
+}
+
+-- what is known of a buffer, with what some line of it matches
+abbrev pub buffer_lines : Version → BufferKeys → Old × List (List ℕ) → List Line
+buffer_lines version keys buffer =
+    zone_line keys.zone buffer.0.zone ∷ marks_line keys.marks buffer.0.marks ∷
+    (matched_lines version keys.has buffer.1 ++ told_lines version keys.lines keys.clear buffer.0.facts)
 
 -- an earlier buffer that undo may bring back, where there is one
 abbrev pub old_lines : Version → Option Old → (has : List (List ℕ)) → List Line
 old_lines version None has = []
-old_lines version (Some old) has =
-    zone_line (codes "old-zone") old.zone ∷ marks_line (codes "old-marks") old.marks ∷ matched_lines version (codes "old-has") has
+old_lines version (Some old) has = buffer_lines version earlier_keys (old, has)
 
 -- that of a state
 abbrev pub earlier_lines : Version → State → List Line
 earlier_lines version s = old_lines version s.undo.was s.matches.old_has
 
+-- a state's own buffer
+abbrev pub buffer_of : State → Old × List (List ℕ)
+buffer_of s = (record { zone = s.zone; marks = s.marks; facts = s.facts }, s.matches.has)
+
 -- what is known at one point of a script
 abbrev pub state_lines : Version → State → List Line
 state_lines version s =
-    zone_line (codes "zone") s.zone ∷ marks_line (codes "marks") s.marks ∷ matched_lines version (codes "has") s.matches.has
+    buffer_lines version own_keys (buffer_of s)
     ++ choices_line (codes "patterns") s.patterns ∷ replacements_line s.replacements ∷ choices_line (codes "names") s.names
     ∷ changed_line s.changed ∷ undo_line s.undo ∷ earlier_lines version s
 
@@ -161,6 +232,7 @@ note_lines version n = headed_lines version (codes "note") n.state ++ looped_lin
 abbrev pub version_line : Version → Line
 version_line One = codes "ed-certificate" ∷ codes "1" ∷ []
 version_line Two = codes "ed-certificate" ∷ codes "2" ∷ []
+version_line Three = codes "ed-certificate" ∷ codes "3" ∷ []
 
 abbrev pub path_line : Choice → Line
 path_line path = codes "path" ∷ choice_word path ∷ []
@@ -168,10 +240,21 @@ path_line path = codes "path" ∷ choice_word path ∷ []
 abbrev pub bounds_line : (key : Word) → (low : ℕ) → (high : Option ℕ) → Line
 bounds_line key low high = key ∷ decimal low ∷ limit_word high ∷ []
 
+-- chains of landmarks, by the texts that spell them
+abbrev pub chains_line : List ChainValue → Line
+chains_line chains = texts_line (codes "at") (map (λ chain. chain.text) chains)
+
+-- they are said in version 3 alone
+abbrev pub chains_lines : Version → List ChainValue → List Line
+chains_lines One chains = []
+chains_lines Two chains = []
+chains_lines Three chains = chains_line chains ∷ []
+
 -- the lines before and after the notes
 abbrev pub opening_lines : Certificate → List Line
 opening_lines c =
-    version_line c.version ∷ path_line c.path ∷ bounds_line (codes "start") c.min c.max ∷ matched_lines c.version (codes "has") c.has
+    version_line c.version ∷ path_line c.path ∷ bounds_line (codes "start") c.min c.max ∷
+    (matched_lines c.version (codes "has") c.has ++ chains_lines c.version c.landmarks)
 
 abbrev pub closing_lines : Certificate → List Line
 closing_lines c =

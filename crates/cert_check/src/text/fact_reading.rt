@@ -182,7 +182,7 @@ fn is_stretch_before(one: &ClearStretch, other: &ClearStretch) -> bool
 }
 
 /// Whether each fact stands before those after it.
-fn facts_rise(facts: &[KnownLine]) -> bool
+pub(crate) fn facts_rise(facts: &[KnownLine]) -> bool
     ensures value { result ≡ is_rising_by fact_order facts.now }
 {
     for next in 1..facts.len() {
@@ -194,7 +194,7 @@ fn facts_rise(facts: &[KnownLine]) -> bool
 }
 
 /// Whether each stretch stands before those after it.
-fn stretches_rise(stretches: &[ClearStretch]) -> bool
+pub(crate) fn stretches_rise(stretches: &[ClearStretch]) -> bool
     ensures value { result ≡ is_rising_by stretch_order stretches.now }
 {
     for next in 1..stretches.len() {

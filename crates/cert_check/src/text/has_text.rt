@@ -4,14 +4,18 @@ ghost use Rattle.std.specs.Prelude.{◌≡◌, ◌<◌, ◌↔◌, ◌&&◌, ◌
 ghost use Rattle.zones.specs.Limits.{IsZone};
 ghost use Rattle.cert_check.specs.Certificates.{boxed_value, note_value, certificate_value};
 ghost use Rattle.ed_rules.specs.Formed.{has_name, may_say, ZoneIsFormed, OldIsFormed, ChoiceIsBytes, SetIsFormed, StateIsFormed};
-ghost use Rattle.cert_check.specs.text.HasText.{IsSaidIn, OldIsSaidIn, OldSaysNothing, StateHasText, LoopedHasText, NoteHasText, HasText};
+ghost use Rattle.cert_check.specs.text.HasText.{IsSaidIn, OldIsSaidIn, OldIsToldIn, does_follow, StateHasText, ChainHasText, ChainsHaveText, LoopedHasText, NoteHasText, HasText};
+ghost use Rattle.cert_check.specs.text.FactsText.{AreToldIn};
 ghost use Rattle.ed_rules.specs.Formed.{says_nothing};
 
 use crate::certificate::{Certificate, Looped, Note, Version};
+use crate::text::formed_facts::facts_are_formed;
 use ed_base::{Bytes, Letter, do_rise};
 use ed_rules::{
-    Changed, Choices, KeptOld, KeptState, KeptUndo, LineBounds, Marks, Replacements, Texts,
+    Changed, Choices, KeptOld, KeptState, KeptUndo, LineBounds, LineFacts, Marks, Replacements,
+    Texts,
 };
+use landmarks::LandmarkChain;
 use zones::{KeptZone, Name};
 
 /// Whether a name is neither a letter's nor that of an address of one command, which no text has.
@@ -155,6 +159,7 @@ fn is_said(version: Version, set: &Texts) -> bool
     match version {
         Version::One => members.is_empty(),
         Version::Two => true,
+        Version::Three => true,
     }
 }
 
@@ -168,13 +173,35 @@ fn old_is_said(version: Version, old: &Option<KeptOld>, set: &Texts) -> bool
     }
 }
 
-/// Whether nothing is said of single lines of an earlier buffer.
-fn old_says_nothing(old: &Option<KeptOld>) -> bool
-    ensures exact { IsTrue result ↔ OldSaysNothing old.now }
+/// Whether a version can say what is known of single lines: versions 1 and 2 say nothing.
+fn are_told(version: Version, marks: &Marks, facts: &LineFacts) -> bool
+    ensures exact { IsTrue result ↔ AreToldIn version marks.now facts.now }
+{
+    match version {
+        Version::One => facts.are_none(),
+        Version::Two => facts.are_none(),
+        Version::Three => facts_are_formed(marks, facts),
+    }
+}
+
+/// The same of an earlier buffer.
+fn old_is_told(version: Version, old: &Option<KeptOld>) -> bool
+    ensures exact { IsTrue result ↔ OldIsToldIn version old.now }
 {
     match old {
-        Some(old) => old.facts().are_none(),
+        Some(old) => are_told(version, old.marks(), old.facts()),
         None => true,
+    }
+}
+
+/// Whether a version follows single lines.
+pub(crate) fn does_follow(version: Version) -> bool
+    ensures value { result ≡ does_follow version }
+{
+    match version {
+        Version::One => false,
+        Version::Two => false,
+        Version::Three => true,
     }
 }
 
@@ -185,9 +212,9 @@ fn state_has_text(version: Version, state: &KeptState) -> bool
     is_formed(state)
         && is_said(version, &matches.has)
         && old_is_said(version, state.kept_undo().was(), &matches.old_has)
-        && !state.follows()
-        && state.facts().are_none()
-        && old_says_nothing(state.kept_undo().was())
+        && state.follows() == does_follow(version)
+        && are_told(version, state.marks(), state.facts())
+        && old_is_told(version, state.kept_undo().was())
 }
 
 fn inner_have_text(version: Version, states: &[KeptState]) -> bool
@@ -233,10 +260,39 @@ fn notes_have_text(version: Version, notes: &[Note]) -> bool
     true
 }
 
+/// The text of a chain is bytes and spells it.
+fn chain_has_text(chain: &LandmarkChain)
+    ensures text { ChainHasText chain.now }
+{
+    are_bytes(chain.text().as_slice());
+}
+
+/// Chains of landmarks have their texts.
+fn each_chain_has_text(chains: &[LandmarkChain])
+    ensures texts { All ChainHasText chains.now }
+{
+    for chain in chains {
+        chain_has_text(chain);
+    }
+}
+
+/// Whether a version can say which landmarks the start has: versions 1 and 2 say of none.
+fn chains_have_text(version: Version, chains: &[LandmarkChain]) -> bool
+    ensures exact { IsTrue result ↔ ChainsHaveText version chains.now }
+{
+    each_chain_has_text(chains);
+    match version {
+        Version::One => chains.is_empty(),
+        Version::Two => chains.is_empty(),
+        Version::Three => true,
+    }
+}
+
 impl Certificate {
     /// Whether the certificate has a text: the fewest lines of its start aren't above the most, no bound on lines is above 10^12, each
-    /// zone speaks only of the letters beside it, the paths that may be written rise, nothing is said of single lines, and nothing of what
-    /// some line matches if the version says nothing of that, or if undo has no earlier buffer.
+    /// zone and each fact of lines speaks only of the letters beside it, facts and the paths that may be written rise, single lines are
+    /// followed just if the version does that, and nothing is said of what the version doesn't say, or of an earlier buffer that undo
+    /// doesn't have.
     pub fn has_text(&self) -> bool
         ensures exact { IsTrue result ↔ HasText (certificate_value self.now) }
     {
@@ -250,6 +306,9 @@ impl Certificate {
             return false;
         }
         if !is_said(self.version, &self.has) {
+            return false;
+        }
+        if !chains_have_text(self.version, self.landmarks.as_slice()) {
             return false;
         }
         if !notes_have_text(self.version, self.notes.as_slice()) {

@@ -3,8 +3,9 @@
 ghost use Rattle.std.specs.Prelude.{◌≡◌, ◌&&◌, ◌||◌, true, Some, All, map, option_map, IfOk, codes};
 ghost use Rattle.ed_rules.specs.Formed.{ChoiceIsBytes, SetIsFormed, TextsAreFormed};
 ghost use Rattle.ed_rules.specs.LineBounds.{is_few, is_limit, is_within};
-ghost use Rattle.cert_check.specs.text.Text.{spaced, choice_word, replacements_line, changed_line, bounds_line, path_line, choices_line, texts_line};
-ghost use Rattle.cert_check.specs.text.Reading.{ReadsAs, WordReadsAs, undo_words_line};
+ghost use Rattle.cert_check.specs.text.Text.{spaced, choice_word, replacements_line, changed_line, bounds_line, path_line, choices_line, texts_line, chains_line};
+ghost use Rattle.cert_check.specs.text.HasText.{ChainHasText};
+ghost use Rattle.cert_check.specs.text.Reading.{ReadsAs, WordReadsAs, AreChains, undo_words_line};
 
 use crate::text::has_text::{choices_are_bytes, some_changed, some_replacement, texts_are_bytes};
 use crate::text::words_in::{
@@ -12,6 +13,7 @@ use crate::text::words_in::{
 };
 use ed_base::{Bytes, do_rise};
 use ed_rules::{Changed, Choices, LineBounds, Replacements, Texts};
+use landmarks::{ChainFault, LandmarkChain};
 use std::alloc::{AllocError, Global};
 
 /// What undo may find: nothing, the buffer as it is, an earlier one.
@@ -250,4 +252,34 @@ pub(crate) fn set_in(alloc: Global, key: &[u8], line: &[u8]) -> Result<Option<Te
         return Ok(None);
     };
     Ok(Texts::from_rising(texts))
+}
+
+/// The chains that these texts spell; `None` where one of them spells none.
+fn chains_of(alloc: Global, texts: &[Bytes]) -> Result<Option<Vec<LandmarkChain>>, AllocError>
+    ensures exact { IfOk result (λ chains. AreChains texts.now (option_map (λ chains. chains.items) chains)) }
+{
+    let mut chains = Vec::new(alloc);
+    for text in texts {
+        let text = text.try_copy()?;
+        match LandmarkChain::read(alloc, text) {
+            Ok(chain) => chains.push(chain)?,
+            Err(ChainFault::Memory) => return Err(AllocError),
+            Err(ChainFault::Wrong(_, _)) => return Ok(None),
+        }
+    }
+    Ok(Some(chains))
+}
+
+/// The chains of landmarks of a line.
+pub(crate) fn chains_in(
+    alloc: Global,
+    line: &[u8],
+) -> Result<Option<Vec<LandmarkChain>>, AllocError>
+    ensures exact { IfOk result (λ chains. ReadsAs chains_line (All ChainHasText)
+        line.now (option_map (λ chains. chains.items) chains)) }
+{
+    let Some(texts) = texts_of(alloc, b"at", line)? else {
+        return Ok(None);
+    };
+    chains_of(alloc, texts.as_slice())
 }

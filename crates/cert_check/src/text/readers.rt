@@ -1,24 +1,25 @@
 //! Reads the lines of a certificate, each at its place.
 
-ghost use Rattle.std.specs.Prelude.{◌≡◌, ◌∷◌, [], codes};
+ghost use Rattle.std.specs.Prelude.{◌≡◌, ◌∷◌, [], codes, All};
 ghost use Rattle.ed_rules.specs.Formed.{ChoiceIsBytes, SetIsFormed, TextsAreFormed, ZoneIsFormed};
-ghost use Rattle.cert_check.specs.text.HasText.{IsSaidIn};
+ghost use Rattle.cert_check.specs.text.HasText.{IsSaidIn, ChainHasText, ChainsHaveText};
 ghost use Rattle.cert_check.specs.text.Pieces.{Reads, same, alone, limits_line, AreLimits, AreStartLimits, IsSomeReplacement, IsSomeChange, IsFound, either_line, found_line, head_line};
 ghost use Rattle.cert_check.specs.text.Reading.{ReadsAs, all_marks};
 ghost use Rattle.cert_check.specs.text.Wanted.{key, other_keys};
-ghost use Rattle.cert_check.specs.text.Text.{path_line, texts_line, matched_lines, zone_line, marks_line, choices_line, replacements_line, changed_line};
+ghost use Rattle.cert_check.specs.text.Text.{path_line, texts_line, matched_lines, chains_line, chains_lines, zone_line, marks_line, choices_line, replacements_line, changed_line};
 
 use crate::certificate::Version;
 use crate::text::cursor::{Cursor, Head};
 use crate::text::fault::Unread;
 use crate::text::lines::{
-    Found, changed_in, choices_in, final_in, path_in, replacements_in, set_in, start_in, undo_in,
-    writes_in,
+    Found, chains_in, changed_in, choices_in, final_in, path_in, replacements_in, set_in, start_in,
+    undo_in, writes_in,
 };
 use crate::text::wanted::LineKind;
 use crate::text::zone_lines::{marks_in, zone_in};
 use ed_base::Bytes;
 use ed_rules::{Changed, Choices, Marks, Replacements, Texts};
+use landmarks::LandmarkChain;
 use std::alloc::Global;
 use zones::KeptZone;
 
@@ -75,6 +76,30 @@ pub(crate) fn read_matched(
     match version {
         Version::One => Ok(Texts::none(alloc)),
         Version::Two => read_set(alloc, kind, cursor),
+        Version::Three => read_set(alloc, kind, cursor),
+    }
+}
+
+/// The line of the chains of landmarks.
+fn read_at(alloc: Global, cursor: &mut Cursor<'_>) -> Result<Vec<LandmarkChain>, Unread>
+    ensures exact { Reads (λ v. v.items) (alone chains_line) (All ChainHasText) cursor.old cursor.new result }
+{
+    let line = cursor.line()?;
+    cursor.read_as(LineKind::At, chains_in(alloc, line)?)
+}
+
+/// The chains of landmarks of the start, where the version has a line of them.
+pub(crate) fn read_chains(
+    alloc: Global,
+    version: Version,
+    cursor: &mut Cursor<'_>,
+) -> Result<Vec<LandmarkChain>, Unread>
+    ensures exact { Reads (λ v. v.items) (chains_lines version) (ChainsHaveText version) cursor.old cursor.new result }
+{
+    match version {
+        Version::One => Ok(Vec::new(alloc)),
+        Version::Two => Ok(Vec::new(alloc)),
+        Version::Three => read_at(alloc, cursor),
     }
 }
 

@@ -12,7 +12,9 @@ use crate::certificate::{Certificate, Version};
 use crate::text::cursor::Cursor;
 use crate::text::fault::{CertFault, Unread};
 use crate::text::notes::read_notes;
-use crate::text::readers::{read_final, read_matched, read_path, read_start, read_writes};
+use crate::text::readers::{
+    read_chains, read_final, read_matched, read_path, read_start, read_writes,
+};
 use crate::text::states::read_state;
 use crate::text::wanted::{LineKind, Wanted};
 use std::alloc::{AllocError, Global};
@@ -26,6 +28,9 @@ fn version_in(line: &[u8]) -> Option<Version>
     }
     if line == b"ed-certificate 2".as_slice() {
         return Some(Version::Two);
+    }
+    if line == b"ed-certificate 3".as_slice() {
+        return Some(Version::Three);
     }
     None
 }
@@ -41,6 +46,7 @@ fn read_rest(
     let path = read_path(alloc, cursor)?;
     let (min, max) = read_start(cursor)?;
     let has = read_matched(alloc, version, LineKind::Has, cursor)?;
+    let landmarks = read_chains(alloc, version, cursor)?;
     let notes = read_notes(alloc, version, cursor)?;
     let last = read_state(alloc, version, cursor)?;
     let (low, high) = read_final(cursor)?;
@@ -51,6 +57,7 @@ fn read_rest(
         min,
         max,
         has,
+        landmarks,
         notes,
         last,
         low,

@@ -1,14 +1,15 @@
 //! Reads what is known at one point of a script.
 
-ghost use Rattle.std.specs.Prelude.{◌≡◌, []};
+ghost use Rattle.std.specs.Prelude.{◌≡◌};
 ghost use Rattle.cert_check.specs.text.HasText.{StateHasText};
-ghost use Rattle.cert_check.specs.text.Pieces.{Reads, same, marked_lines, marked_value, MarkedIsFormed, undo_lines, UndoIsFormed};
-ghost use Rattle.cert_check.specs.text.Text.{state_lines};
-ghost use Rattle.cert_check.specs.text.Wanted.{key, other_keys};
+ghost use Rattle.cert_check.specs.text.Pieces.{Reads, same, buffer_value, BufferIsFormed, keys_of, AreAlone, undo_lines, UndoIsFormed};
+ghost use Rattle.cert_check.specs.text.Text.{own_keys, earlier_keys, buffer_lines, state_lines};
 
 use crate::certificate::Version;
 use crate::text::cursor::Cursor;
+use crate::text::fact_lines::read_facts;
 use crate::text::fault::Unread;
+use crate::text::has_text::does_follow;
 use crate::text::readers::{
     read_changed, read_choices, read_found, read_marks, read_matched, read_replacements, read_zone,
 };
@@ -17,26 +18,73 @@ use ed_rules::{KeptOld, KeptState, KeptUndo, LineFacts, Marks, Matches, Texts};
 use std::alloc::Global;
 use zones::KeptZone;
 
-/// A zone and the marks beside it.
-#[derive(Drop)]
-pub(crate) struct Marked {
-    pub zone: KeptZone,
-    pub marks: Marks,
+/// The kinds of the lines on a buffer.
+#[derive(Clone, Copy, PartialEq, Eq, Debug)]
+pub(crate) struct BufferKinds {
+    pub zone: LineKind,
+    pub marks: LineKind,
+    pub has: LineKind,
+    pub lines: LineKind,
+    pub clear: LineKind,
 }
 
-fn read_marked(
+/// What is known of a buffer.
+#[derive(Drop)]
+pub(crate) struct Buffer {
+    pub zone: KeptZone,
+    pub marks: Marks,
+    /// The patterns that some line matches.
+    pub has: Texts,
+    pub facts: LineFacts,
+}
+
+fn read_buffer(
     alloc: Global,
-    zone_kind: LineKind,
-    marks_kind: LineKind,
+    version: Version,
+    kinds: BufferKinds,
     cursor: &mut Cursor<'_>,
-) -> Result<Marked, Unread>
-    requires zone_alone { other_keys zone_kind ≡ [] }
-    requires marks_alone { other_keys marks_kind ≡ [] }
-    ensures exact { Reads marked_value (marked_lines (key zone_kind) (key marks_kind)) MarkedIsFormed cursor.old cursor.new result }
+) -> Result<Buffer, Unread>
+    requires alone { AreAlone kinds }
+    ensures exact { Reads buffer_value (buffer_lines version (keys_of kinds)) (BufferIsFormed version) cursor.old cursor.new result }
 {
-    let zone = read_zone(alloc, zone_kind, cursor)?;
-    let marks = read_marks(marks_kind, &zone, cursor)?;
-    Ok(Marked { zone, marks })
+    let zone = read_zone(alloc, kinds.zone, cursor)?;
+    let marks = read_marks(kinds.marks, &zone, cursor)?;
+    let has = read_matched(alloc, version, kinds.has, cursor)?;
+    let facts = read_facts(alloc, version, kinds.lines, kinds.clear, &marks, cursor)?;
+    Ok(Buffer {
+        zone,
+        marks,
+        has,
+        facts,
+    })
+}
+
+/// What is known of the buffer of a state.
+fn read_own(alloc: Global, version: Version, cursor: &mut Cursor<'_>) -> Result<Buffer, Unread>
+    ensures exact { Reads buffer_value (buffer_lines version own_keys) (BufferIsFormed version) cursor.old cursor.new result }
+{
+    let kinds = BufferKinds {
+        zone: LineKind::Zone,
+        marks: LineKind::Marks,
+        has: LineKind::Has,
+        lines: LineKind::Lines,
+        clear: LineKind::Clear,
+    };
+    read_buffer(alloc, version, kinds, cursor)
+}
+
+/// What is known of an earlier one.
+fn read_earlier(alloc: Global, version: Version, cursor: &mut Cursor<'_>) -> Result<Buffer, Unread>
+    ensures exact { Reads buffer_value (buffer_lines version earlier_keys) (BufferIsFormed version) cursor.old cursor.new result }
+{
+    let kinds = BufferKinds {
+        zone: LineKind::OldZone,
+        marks: LineKind::OldMarks,
+        has: LineKind::OldHas,
+        lines: LineKind::OldLines,
+        clear: LineKind::OldClear,
+    };
+    read_buffer(alloc, version, kinds, cursor)
 }
 
 /// What undo may find, with what an earlier buffer was and what some line of it matches.
@@ -52,11 +100,10 @@ fn read_undo(
         let undo = KeptUndo::new(found.nothing, found.same, None);
         return Ok((undo, Texts::none(alloc)));
     }
-    let old = read_marked(alloc, LineKind::OldZone, LineKind::OldMarks, cursor)?;
-    let has = read_matched(alloc, version, LineKind::OldHas, cursor)?;
-    let was = KeptOld::new(old.zone, old.marks, LineFacts::none(alloc));
+    let old = read_earlier(alloc, version, cursor)?;
+    let was = KeptOld::new(old.zone, old.marks, old.facts);
     let undo = KeptUndo::new(found.nothing, found.same, Some(was));
-    Ok((undo, has))
+    Ok((undo, old.has))
 }
 
 /// What is known at one point of a script.
@@ -67,23 +114,23 @@ pub(crate) fn read_state(
 ) -> Result<KeptState, Unread>
     ensures exact { Reads same (state_lines version) (StateHasText version) cursor.old cursor.new result }
 {
-    let marked = read_marked(alloc, LineKind::Zone, LineKind::Marks, cursor)?;
-    let has = read_matched(alloc, version, LineKind::Has, cursor)?;
+    let buffer = read_own(alloc, version, cursor)?;
     let patterns = read_choices(alloc, LineKind::Patterns, cursor)?;
     let replacements = read_replacements(cursor)?;
     let names = read_choices(alloc, LineKind::Names, cursor)?;
     let changed = read_changed(cursor)?;
     let (undo, old_has) = read_undo(alloc, version, cursor)?;
+    let has = buffer.has;
     Ok(KeptState::new(
-        marked.zone,
-        marked.marks,
+        buffer.zone,
+        buffer.marks,
         patterns,
         replacements,
         names,
         changed,
         undo,
         Matches { has, old_has },
-        false,
-        LineFacts::none(alloc),
+        does_follow(version),
+        buffer.facts,
     ))
 }

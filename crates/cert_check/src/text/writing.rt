@@ -2,17 +2,21 @@
 
 ghost use Rattle.std.specs.Prelude.{◌≡◌, ◌++◌, ◌∷◌, [], map, flat_map, option_map, codes, IfOk};
 ghost use Rattle.cert_check.specs.Certificates.{boxed_value, looped_value, note_value, certificate_value};
-ghost use Rattle.cert_check.specs.text.Text.{lines_text, zone_line, marks_line, choices_line, texts_line, matched_lines, replacements_line, changed_line, undo_line, old_lines, state_lines, headed_lines, looped_lines, note_lines, version_line, path_line, bounds_line, opening_lines, closing_lines, text_of};
+ghost use Rattle.cert_check.specs.text.Text.{lines_text, zone_line, marks_line, choices_line, texts_line, matched_lines, told_lines, chains_line, chains_lines, replacements_line, changed_line, undo_line, old_lines, state_lines, headed_lines, looped_lines, note_lines, version_line, path_line, bounds_line, opening_lines, closing_lines, text_of};
 ghost use Rattle.cert_check.specs.text.HasText.{HasText};
 
 use crate::certificate::{Certificate, Looped, Note, Version};
+use crate::text::fact_writing::{write_facts, write_old_facts};
 use crate::text::kept::KeptText;
 use crate::text::words::{
     push_choice, push_limit, push_marks, push_number, push_path, push_possible, push_zone,
 };
 use crate::text::writer::TextWriter;
 use ed_base::Bytes;
-use ed_rules::{Changed, Choices, KeptOld, KeptState, KeptUndo, Marks, Replacements, Texts};
+use ed_rules::{
+    Changed, Choices, KeptOld, KeptState, KeptUndo, LineFacts, Marks, Replacements, Texts,
+};
+use landmarks::LandmarkChain;
 use std::alloc::AllocError;
 use zones::KeptZone;
 
@@ -59,6 +63,50 @@ fn push_matched<W: TextWriter>(out: &mut W, version: Version, key: &[u8], set: &
     match version {
         Version::One => {}
         Version::Two => push_texts_line(out, key, set.members()),
+        Version::Three => push_texts_line(out, key, set.members()),
+    }
+}
+
+/// The texts of chains of landmarks, where the version has a line of them.
+fn push_chains<W: TextWriter>(out: &mut W, version: Version, chains: &[LandmarkChain])
+    ensures appended { W.written out.new ≡ W.written out.old ++ lines_text (chains_lines version chains.now) }
+{
+    match version {
+        Version::One => (),
+        Version::Two => (),
+        Version::Three => push_chains_line(out, chains),
+    }
+}
+
+fn push_chains_line<W: TextWriter>(out: &mut W, chains: &[LandmarkChain])
+    ensures appended { W.written out.new ≡ W.written out.old ++ lines_text (chains_line chains.now ∷ []) }
+{
+    out.extend(b"at");
+    for chain in chains {
+        push_path(out, chain.text());
+    }
+    out.push(b'\n');
+}
+
+/// What is known of single lines, where the version has lines of that.
+fn push_told<W: TextWriter>(out: &mut W, version: Version, facts: &LineFacts)
+    ensures appended { W.written out.new ≡ W.written out.old ++ lines_text (told_lines version (codes "lines") (codes "clear") facts.now) }
+{
+    match version {
+        Version::One => (),
+        Version::Two => (),
+        Version::Three => write_facts(out, facts),
+    }
+}
+
+/// The same of an earlier buffer.
+fn push_old_told<W: TextWriter>(out: &mut W, version: Version, facts: &LineFacts)
+    ensures appended { W.written out.new ≡ W.written out.old ++ lines_text (told_lines version (codes "old-lines") (codes "old-clear") facts.now) }
+{
+    match version {
+        Version::One => (),
+        Version::Two => (),
+        Version::Three => write_old_facts(out, facts),
     }
 }
 
@@ -99,6 +147,7 @@ fn push_old<W: TextWriter>(out: &mut W, version: Version, old: &Option<KeptOld>,
             push_zone_line(out, b"old-zone", old.zone());
             push_marks_line(out, b"old-marks", old.marks());
             push_matched(out, version, b"old-has", has);
+            push_old_told(out, version, old.facts());
         }
         None => {}
     }
@@ -111,6 +160,7 @@ fn push_state<W: TextWriter>(out: &mut W, version: Version, state: &KeptState)
     push_marks_line(out, b"marks", state.marks());
     let matches = state.matches();
     push_matched(out, version, b"has", &matches.has);
+    push_told(out, version, state.facts());
     push_choices_line(out, b"patterns", state.patterns());
     push_replacements_line(out, state.replacements());
     push_choices_line(out, b"names", state.names());
@@ -175,6 +225,7 @@ fn push_version_line<W: TextWriter>(out: &mut W, version: Version)
     match version {
         Version::One => out.extend(b"ed-certificate 1\n"),
         Version::Two => out.extend(b"ed-certificate 2\n"),
+        Version::Three => out.extend(b"ed-certificate 3\n"),
     }
 }
 
@@ -204,6 +255,7 @@ fn push_opening<W: TextWriter>(out: &mut W, certificate: &Certificate)
     push_path_line(out, &certificate.path);
     push_bounds_line(out, b"start", certificate.min, certificate.max);
     push_matched(out, certificate.version, b"has", &certificate.has);
+    push_chains(out, certificate.version, certificate.landmarks.as_slice());
 }
 
 fn push_closing<W: TextWriter>(out: &mut W, certificate: &Certificate)

@@ -1,10 +1,12 @@
 //! What a person is told of a job beside its output. No clause speaks of that.
 ghost use Rattle.hints.specs.Passing.{IsAllowed};
 
+use crate::placed::Missed;
 use crate::stderr::command_line::quoted;
 use crate::stderr::file_name::{shell_option, shell_word, start_name};
 use crate::stderr::found::{found, sought};
 use crate::stderr::hinted::{hinted, unusable};
+use crate::stderr::missed::landmark_missed;
 use crate::stderr::stopped::{stopped, stopped_in_list};
 use crate::stderr::unread::unread;
 use crate::stderr::written::{person_lines, tool_lines};
@@ -168,6 +170,11 @@ impl<'a> Aside<'a> {
     pub fn unmatched(&mut self, path: &Option<Bytes>, pattern: &Bytes) {
         self.say(unmatched(self.alloc, path, pattern.as_slice()));
     }
+
+    /// The start doesn't have the landmarks of a chain that the certificate states.
+    pub(crate) fn missed(&mut self, path: &Option<Bytes>, missed: &Missed<'_>) {
+        self.say(landmark_missed(self.alloc, path, missed));
+    }
 }
 
 /// Appends lines, where there was memory for them.
@@ -189,13 +196,25 @@ fn refused(
         more: Vec::new(alloc),
     };
     if place.command == 0 {
-        told.more.push(Said::Error(String::from_str(
-            alloc,
-            "the certificate is for another script: it has another number of commands",
-        )?))?;
+        told.more.push(Said::Error(String::from_str(alloc, other_script(certificate.version))?))?;
     }
-    told.more.push(Said::Hint(again_text(alloc, certificate)?))?;
+    // No call makes one with landmarks yet.
+    if certificate.version != Version::Three {
+        told.more.push(Said::Hint(again_text(alloc, certificate)?))?;
+    }
     Ok(told)
+}
+
+/// That the script isn't the certificate's, by its shape or, with landmarks, by the letters that it leaves for them.
+fn other_script(version: Version) -> &'static str {
+    match version {
+        Version::One | Version::Two => {
+            "the certificate is for another script: it has another number of commands"
+        }
+        Version::Three => {
+            "the certificate is for another script: it has another number of commands, or leaves too few letters for the landmarks"
+        }
+    }
 }
 
 /// How a certificate for the same starts is made.

@@ -63,6 +63,7 @@ returns-in-None-clause-exact c =
       min = refl;
       max = refl;
       has = c.stated_of.ensures.value;
+      landmarks = c.new.ensures.items;
       notes = left.0;
       last = left.1;
       end = ends;

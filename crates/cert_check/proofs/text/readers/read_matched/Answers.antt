@@ -12,3 +12,10 @@ returns-in-Two c = record {
       subst (λ (v : Version). Reads same (matched_lines v (key c.args.kind)) (IsSaidIn v) c.args.cursor.now c.read_set.new.cursor c.read_set.result)
       (sym c.in-Two.is) c.read_set.ensures.exact;
 }
+
+pub returns-in-Three : goal.returns-in-Three
+returns-in-Three c = record {
+  exact =
+      subst (λ (v : Version). Reads same (matched_lines v (key c.args.kind)) (IsSaidIn v) c.args.cursor.now c.read_set-in-Three.new.cursor c.read_set-in-Three.result)
+      (sym c.in-Three.is) c.read_set-in-Three.ensures.exact;
+}
