@@ -3,7 +3,7 @@ _edv() {
   local word=${COMP_WORDS[COMP_CWORD]} before=${COMP_WORDS[COMP_CWORD - 1]} job=${COMP_WORDS[1]:-}
   COMPREPLY=()
   if [ "$COMP_CWORD" -eq 1 ]; then
-    mapfile -t COMPREPLY < <(compgen -W "edit vouch check run fits --help --version" -- "$word")
+    mapfile -t COMPREPLY < <(compgen -W "edit vouch explain check run fits --help --version" -- "$word")
     return
   fi
   case $before in
@@ -20,6 +20,7 @@ _edv() {
     case $job in
     edit) words="--vouched --like --whole -n --dry-run -s -p -f --help" ;;
     vouch) words="--like --min --max --all -q --quiet --patterns --has -f --help" ;;
+    explain) words="--like --min --max --patterns --has -f --help" ;;
     check) words="-f --help" ;;
     run) words="--whole -n --dry-run -s -f --help" ;;
     fits) words="--help" ;;

@@ -315,6 +315,7 @@ kinds='open stat read write ftruncate fsync close'
 bytewise=write
 on 'check' 0 '1d\nw\nq\n' 'check CERT' 'takes CERT' 'says accepted\n'
 on 'check of another certificate' 1 '1d\nw\nq\n' 'check WRONG' 'takes WRONG' 'says refused: command 4\n'
+on 'explain' 0 '1d\nw\nq\n' 'explain CERT' 'takes CERT' 'says 1: 1 to 3 lines, at the last one | 1d\n2: 0 to 2 lines, at line 0 to 1, changed | w\n3: 0 to 2 lines, at line 0 to 1 | q\n'
 on 'run' 0 '1d\nw\nq\n' 'run CERT F' \
   'takes CERT' 'reads F' 'says 6\n' 'writes F b\nc\n' 'says 4\n'
 on 'run -s' 0 '1d\nw\nq\n' 'run CERT -s F' \

@@ -168,6 +168,8 @@ REFUSED = [(b'final 0 2\n', b'final 0 1\n')]
 NONE = [*REFUSED, (b'start 1 3\n', b'start 3 1\n')]
 CHANGED = [
     Changed('a certificate that is refused', '--min 1 --max 3', REFUSED, 'check CERT', 1),
+    Changed('a certificate that is refused', '--min 1 --max 3', REFUSED, 'explain CERT', 1),
+    Changed('what is no certificate', '--min 1 --max 3', NONE, 'explain CERT', 1),
     Changed('what is no certificate', '--min 1 --max 3', NONE, 'check CERT', 1),
     Changed('what is no certificate', '--min 1 --max 3', NONE, 'run CERT -s F', 1),
     Changed('what is no certificate', '--min 1 --max 3', NONE, 'fits CERT F', 1),

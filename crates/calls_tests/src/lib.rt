@@ -14,6 +14,8 @@ mod checking;
 #[cfg(test)]
 mod edits;
 #[cfg(test)]
+mod explaining;
+#[cfg(test)]
 mod fitting;
 #[cfg(test)]
 mod found;

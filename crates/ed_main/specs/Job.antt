@@ -8,4 +8,5 @@ abbrev pub IsGiven : Job → Type 0
 IsGiven (job.Edit options script writes judged) = IfSome judged IsWanted
 IsGiven (job.Vouch wanted script all) = IsWanted wanted
 IsGiven (job.Judge wanted scripts detail) = IsWanted wanted
+IsGiven (job.Explain wanted script) = IsWanted wanted
 IsGiven other = Unit {0}

@@ -10,6 +10,7 @@ use Rattle.sources.specs.declared.source.ReadFault.{ReadFault}
 use Rattle.ed_calls.specs.declared.starts.Starts.{Starts}
 use Rattle.ed_calls.specs.Check.{Checks}
 use Rattle.ed_calls.specs.Edit.{Correct}
+use Rattle.ed_calls.specs.Explains.{Explains, ExplainsBy}
 use Rattle.ed_calls.specs.Fits.{Fits}
 use Rattle.ed_calls.specs.Headline.{MayFail}
 use Rattle.ed_calls.specs.HeldBack.{HeldBack}
@@ -41,6 +42,8 @@ abbrev pub wants_script : Job → Bool
 wants_script (job.Edit options script writes vouched) = true
 wants_script (job.Vouch wanted script all) = true
 wants_script (job.Judge wanted scripts detail) = names_none scripts
+wants_script (job.Explain wanted script) = true
+wants_script (job.ExplainBy certificate script) = true
 wants_script (job.Check certificate script) = true
 wants_script (job.Run certificate options script writes) = true
 wants_script (job.Fits certificate path) = false
@@ -50,6 +53,8 @@ abbrev pub script_named : Job → Option (List ℕ)
 script_named (job.Edit options script writes vouched) = script
 script_named (job.Vouch wanted script all) = script
 script_named (job.Judge wanted scripts detail) = None
+script_named (job.Explain wanted script) = script
+script_named (job.ExplainBy certificate script) = script
 script_named (job.Check certificate script) = script
 script_named (job.Run certificate options script writes) = script
 script_named (job.Fits certificate path) = None
@@ -125,6 +130,8 @@ Does script (job.Edit options named writes None) = Somehow (Writes writes (Edits
 Does script (job.Edit options named writes (Some wanted)) = WithStarts wanted (λ starts. Somehow (Writes writes (EditsVouched starts script options)))
 Does script (job.Vouch wanted named all) = WithStarts wanted (λ starts. Somehow (λ met. Says (Vouches script starts) met.sink))
 Does script (job.Judge wanted scripts detail) = WithStarts wanted (λ starts. Judges script starts scripts)
+Does script (job.Explain wanted named) = WithStarts wanted (λ starts. Somehow (λ met. Says (Explains script starts) met.sink))
+Does script (job.ExplainBy path named) = WithFile (λ certificate. Somehow (λ met. Says (ExplainsBy script certificate) met.sink))
 Does script (job.Check path named) = WithFile (λ certificate. Somehow (λ met. Says (Checks script certificate) met.sink))
 Does script (job.Run path options named writes) = WithFile (λ certificate. Somehow (Writes writes (RunsOn script certificate options)))
 Does script (job.Fits certificate path) = WithFile (λ bytes. Somehow (λ met. Fits bytes path met.log met.sink))

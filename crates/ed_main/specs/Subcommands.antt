@@ -64,9 +64,13 @@ patterns = record (new_rule (codes "patterns")) { long = Some (codes "patterns")
 abbrev pub has : Rule
 has = record (new_rule (codes "has")) { long = Some (codes "has"); action = Some Append; value_names = 1 }
 
+-- `[CERT]`
+abbrev pub notes : Rule
+notes = record (new_rule (codes "certificate")) { action = Some Set; value_names = 1 }
+
 -- `CERT`
 abbrev pub certificate : Rule
-certificate = record (new_rule (codes "certificate")) { action = Some Set; value_names = 1; required = true }
+certificate = record notes { required = true }
 
 -- a subcommand of this name, that takes these
 abbrev pub subcommand : List ℕ → List Rule → App
@@ -79,6 +83,10 @@ edit = subcommand (codes "edit") (vouched ∷ like ∷ whole ∷ rehearsed ∷ s
 -- `vouch [--like FILE] [--min N] [--max M] [--all] [-q] [--patterns] [--has RE] [-f SCRIPT] [FILE]`
 abbrev pub vouch : App
 vouch = subcommand (codes "vouch") (like ∷ min ∷ max ∷ all ∷ quiet ∷ patterns ∷ has ∷ scripts ∷ file ∷ [])
+
+-- `explain [--like FILE] [--min N] [--max M] [--patterns] [--has RE] [-f SCRIPT] [CERT]`
+abbrev pub explain : App
+explain = subcommand (codes "explain") (like ∷ min ∷ max ∷ patterns ∷ has ∷ script ∷ notes ∷ [])
 
 -- `check [-f SCRIPT] CERT`
 abbrev pub check : App
@@ -97,4 +105,6 @@ abbrev pub bare : App
 bare = on_top (λ s. record s { has_version = true; subcommand_required = true }) (new_app (codes "edv"))
 
 unfoldable pub program : App
-program = with_subcommand (with_subcommand (with_subcommand (with_subcommand (with_subcommand bare edit.top) vouch.top) check.top) run.top) fits.top
+program =
+    with_subcommand (with_subcommand (with_subcommand (with_subcommand (with_subcommand (with_subcommand bare edit.top) vouch.top) explain.top) check.top) run.top)
+    fits.top

@@ -247,6 +247,27 @@ abbrev pub fitting : (certificate path : Option (List ℕ)) → Option Job
 fitting None path = None
 fitting (Some certificate) path = elim (is_path (Some certificate) && is_path path) [ true ↦ Some (job.Fits certificate path) | false ↦ None ]
 
+-- the file that a script which is explained without a certificate is for: any, under this name
+abbrev pub any_file : Option (List ℕ)
+any_file = Some (codes "FILE")
+
+-- something is given of a start
+abbrev pub gives_start : List Row → Bool
+gives_start rows = is_some (like_in rows) || (tells_of_patterns rows || states_start rows)
+
+-- a script is explained by the certificate at a path, beside which nothing is given of a start
+abbrev pub explaining_by : (path : List ℕ) → List Row → Option Job
+explaining_by path rows = elim (is_path (Some path) && not (gives_start rows)) [ true ↦ Some (job.ExplainBy path (script_in rows)) | false ↦ None ]
+
+-- or over the start that is asked for
+abbrev pub explaining_over : Option Wanted → (script : Option (List ℕ)) → Option Job
+explaining_over None script = None
+explaining_over (Some over) script = Some (job.Explain over script)
+
+abbrev pub explaining : (certificate : Option (List ℕ)) → List Row → Option Job
+explaining None rows = explaining_over (wanted_in any_file rows) (script_in rows)
+explaining (Some path) rows = explaining_by path rows
+
 -- the job of each subcommand with what it was given
 abbrev pub edit_job : List Row → Option Job
 edit_job rows = editing (options_in rows) (script_in rows) (writing_in rows) (is_to_be_vouched rows) (like_in rows)
@@ -259,6 +280,9 @@ vouch_job_of rows scripts =
 
 abbrev pub vouch_job : List Row → Option Job
 vouch_job rows = vouch_job_of rows (texts_in (codes "script") rows)
+
+abbrev pub explain_job : List Row → Option Job
+explain_job rows = elim (is_path (script_in rows)) [ true ↦ explaining (first_of (codes "certificate") rows) rows | false ↦ None ]
 
 abbrev pub check_job : List Row → Option Job
 check_job rows = checking (first_of (codes "certificate") rows) (script_in rows)
@@ -274,6 +298,7 @@ fits_job rows = fitting (first_of (codes "certificate") rows) (first_of (codes "
 abbrev pub job_by_name : List ℕ → List Row → Option Job
 job_by_name name rows =
     if bytes_eq name (codes "edit") then edit_job rows else if bytes_eq name (codes "vouch") then vouch_job rows
+    else if bytes_eq name (codes "explain") then explain_job rows
     else if bytes_eq name (codes "check") then check_job rows else if bytes_eq name (codes "run") then run_job rows
     else if bytes_eq name (codes "fits") then fits_job rows else None
 

@@ -33,6 +33,16 @@ pub enum Job {
         scripts: Paths,
         detail: Detail,
     },
+    /// To explain a script over a start that is given or found.
+    Explain {
+        wanted: Wanted,
+        script: Option<Bytes>,
+    },
+    /// To explain a script by the certificate at a path.
+    ExplainBy {
+        certificate: Bytes,
+        script: Option<Bytes>,
+    },
     /// To check the certificate at a path for a script.
     Check {
         certificate: Bytes,
@@ -60,6 +70,8 @@ impl Job {
         match self {
             Job::Edit { script, .. }
             | Job::Vouch { script, .. }
+            | Job::Explain { script, .. }
+            | Job::ExplainBy { script, .. }
             | Job::Check { script, .. }
             | Job::Run { script, .. } => script.as_ref(),
             Job::Judge { .. } | Job::Fits { .. } => None,
@@ -84,6 +96,8 @@ impl Job {
         match self {
             Job::Edit { script, .. }
             | Job::Vouch { script, .. }
+            | Job::Explain { script, .. }
+            | Job::ExplainBy { script, .. }
             | Job::Check { script, .. }
             | Job::Run { script, .. } => script.is_none(),
             Job::Judge { scripts, .. } => scripts.are_none(),

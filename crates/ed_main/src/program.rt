@@ -1,6 +1,7 @@
 //! One run of the program: its words, its script, its files, and the status that it ends with.
 ghost use Rattle.std.specs.Prelude.{◌≤◌, ℕ, List, Option, IfOk, IfSome};
 ghost use Rattle.ed_calls.specs.Check.{Checks};
+ghost use Rattle.ed_calls.specs.Explains.{Explains, ExplainsBy};
 ghost use Rattle.ed_calls.specs.Fits.{Fits};
 ghost use Rattle.ed_calls.specs.Told.{Says};
 ghost use Rattle.ed_calls.specs.Vouch.{Vouches};
@@ -23,7 +24,10 @@ use crate::wanted::Wanted;
 use crate::words::{WordsFault, job_of_words};
 use crate::writing::Writing;
 use ed_base::{Bytes, Fault};
-use ed_calls::{Aside, Detail, Starts, check_text, fit, show_output, vouch_text};
+use ed_calls::{
+    Aside, Detail, Starts, check_text, explain_certificate, explain_script, fit, show_output,
+    vouch_text,
+};
 use ed_session::Out;
 use ed_syntax::Options;
 use sources::In;
@@ -114,6 +118,11 @@ where
             scripts,
             detail,
         } => judge_wanted(rt, script, wanted, &scripts, detail),
+        Job::Explain { wanted, .. } => explain_wanted(rt, script, wanted),
+        Job::ExplainBy {
+            certificate: path,
+            ..
+        } => explain_at(rt, script, &path),
         Job::Check {
             certificate: path,
             ..
@@ -247,6 +256,64 @@ where
     let mut output = Out::new(io::writer(rt));
     let mut aside = Aside::new(rt.alloc(), script, b"");
     let status = vouch_text(rt.alloc(), script, starts, all, &mut output, &mut aside);
+    show_output(rt, status);
+    aside.show(rt, status);
+    status
+}
+
+/// Explains the script's bytes over the start that is asked for.
+fn explain_wanted<R>(rt: &R, script: &[u8], wanted: Wanted) -> u8
+where
+    R: Files<File = File> + Print + Eprint + AllocGlobal,
+    requires given { IsWanted wanted }
+    ensures status { result ≤ 4 }
+    ensures came { WithStarts wanted (λ starts. Somehow (λ met. Says (Explains script.now starts) met.sink)) result }
+{
+    match starts_from(rt, wanted, false) {
+        Ok(starts) => explain_file(rt, script, starts),
+        Err(fault) => status_of_read(fault),
+    }
+}
+
+/// Tells the standard output what is known before each command of the script's bytes over a start.
+fn explain_file<R>(rt: &R, script: &[u8], starts: Starts) -> u8
+where
+    R: Print + Eprint + AllocGlobal,
+    requires given { AreStarts starts }
+    ensures status { result ≤ 4 }
+    ensures came { Somehow (λ met. Says (Explains script.now starts) met.sink) result }
+{
+    let mut output = Out::new(io::writer(rt));
+    let mut aside = Aside::new(rt.alloc(), script, b"");
+    let status = explain_script(rt.alloc(), script, starts, &mut output, &mut aside);
+    show_output(rt, status);
+    aside.show(rt, status);
+    status
+}
+
+/// The same by the certificate in the file at a path.
+fn explain_at<R>(rt: &R, script: &[u8], path: &Bytes) -> u8
+where
+    R: Files<File = File> + Print + Eprint + AllocGlobal,
+    ensures status { result ≤ 4 }
+    ensures came { WithFile (λ certificate. Somehow (λ met. Says (ExplainsBy script.now certificate) met.sink)) result }
+{
+    match bytes_at(rt, path) {
+        Ok(certificate) => explain_by(rt, script, path, certificate.as_slice()),
+        Err(fault) => status_of_read(fault),
+    }
+}
+
+/// The same by a certificate of these bytes. The path is that of its file.
+fn explain_by<R>(rt: &R, script: &[u8], path: &Bytes, certificate: &[u8]) -> u8
+where
+    R: Print + Eprint + AllocGlobal,
+    ensures status { result ≤ 4 }
+    ensures came { Somehow (λ met. Says (ExplainsBy script.now certificate.now) met.sink) result }
+{
+    let mut output = Out::new(io::writer(rt));
+    let mut aside = Aside::new(rt.alloc(), script, path.as_slice());
+    let status = explain_certificate(rt.alloc(), script, certificate, &mut output, &mut aside);
     show_output(rt, status);
     aside.show(rt, status);
     status

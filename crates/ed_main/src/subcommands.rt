@@ -17,6 +17,7 @@ pub fn program<'a>(alloc: Global) -> Result<Command<'a>, AllocError>
         .subcommand_required(true)
         .subcommand(edit(alloc)?)?
         .subcommand(vouch(alloc)?)?
+        .subcommand(explain(alloc)?)?
         .subcommand(check(alloc)?)?
         .subcommand(run(alloc)?)?
         .subcommand(fits(alloc)?)?;
@@ -64,6 +65,27 @@ fn vouch<'a>(alloc: Global) -> Result<Command<'a>, AllocError>
             has(alloc),
             scripts(alloc),
             file(alloc, "The file that the certificate is for"),
+        ]?,
+    )
+}
+
+fn explain<'a>(alloc: Global) -> Result<Command<'a>, AllocError>
+    ensures value { IfOk result (λ command. app_of command ≡ meaning.explain) }
+    ensures local { IfOk result (λ command. (fields_of command).has_globals ≡ false) }
+{
+    subcommand(
+        alloc,
+        "explain",
+        "Tells what is known before each command of a script",
+        "Example: edv explain CERT <script.ed",
+        vec![in alloc;
+            like(alloc),
+            min(alloc),
+            max(alloc),
+            patterns(alloc),
+            has(alloc),
+            script(alloc),
+            notes(alloc),
         ]?,
     )
 }
@@ -285,13 +307,21 @@ fn has<'a>(alloc: Global) -> Arg<'a>
         .help("A pattern that some line of the file matches, as run tests; may come more than once")
 }
 
-fn certificate<'a>(alloc: Global) -> Arg<'a>
-    ensures value { rule_of result ≡ meaning.certificate }
+fn notes<'a>(alloc: Global) -> Arg<'a>
+    ensures value { rule_of result ≡ meaning.notes }
     ensures local { result.global ≡ false }
 {
     Arg::new(alloc, "certificate")
         .action(ArgAction::Set)
         .value_name("CERT")
+        .help("The file with the certificate; without one the start is found, as vouch finds it")
+}
+
+fn certificate<'a>(alloc: Global) -> Arg<'a>
+    ensures value { rule_of result ≡ meaning.certificate }
+    ensures local { result.global ≡ false }
+{
+    notes(alloc)
         .required(true)
         .help("The file with the certificate")
 }

@@ -5,6 +5,7 @@ ghost use Rattle.ed_main.specs.Words as meaning;
 ghost use Rattle.ed_main.specs.Words.{IsAsked, MayAsk, OnlyAsk, job_of, job_named};
 ghost use Rattle.ed_main.specs.Job.{IsGiven};
 
+mod explaining;
 mod several;
 mod starts;
 mod texts;
@@ -19,6 +20,7 @@ use crate::writing::Writing;
 use clap::ArgMatches;
 use ed_base::Bytes;
 use ed_syntax::Options;
+use explaining::explain_job;
 use several::{are_paths, vouching};
 use starts::{judged_if, wanted_in, wrong_proposal};
 use std::alloc::{AllocError, Global};
@@ -120,6 +122,7 @@ fn job_by_name(alloc: Global, name: &str, given: &ArgMatches<'_>) -> Result<Job,
     match name {
         "edit" => edit_job(alloc, given),
         "vouch" => vouch_job(alloc, given),
+        "explain" => explain_job(alloc, given),
         "check" => check_job(alloc, given),
         "run" => run_job(alloc, given),
         "fits" => fits_job(alloc, given),

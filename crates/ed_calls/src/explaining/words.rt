@@ -11,6 +11,9 @@ use std::alloc::{AllocError, Global};
 /// How many patterns are told.
 const MOST_PATTERNS: usize = 3;
 
+/// Where a script fails over each start, that is told over the longest: more lines than this are no number that anybody gave.
+const MANY_LINES: u64 = LineBounds::MOST / 2;
+
 /// The words of a command's line: what is known before the command at a place, and its front.
 pub(crate) fn words_of(
     alloc: Global,
@@ -57,6 +60,7 @@ fn lines_text(alloc: Global, lines: LineBounds) -> Result<String, AllocError> {
         Some(max) if max == min => Ok(format!(in alloc; "{min} lines")?),
         Some(max) => Ok(format!(in alloc; "{min} to {max} lines")?),
         None if min == 0 => String::from_str(alloc, "any number of lines"),
+        None if min > MANY_LINES => String::from_str(alloc, "many lines"),
         None => Ok(format!(in alloc; "{min} or more lines")?),
     }
 }

@@ -35,7 +35,11 @@ fn file_of(job: &Job) -> Option<&[u8]> {
     let path = match job {
         Job::Edit { options, .. } | Job::Run { options, .. } => &options.path,
         Job::Vouch { wanted, .. } => wanted.path(),
-        Job::Judge { .. } | Job::Check { .. } | Job::Fits { .. } => return None,
+        Job::Judge { .. }
+        | Job::Explain { .. }
+        | Job::ExplainBy { .. }
+        | Job::Check { .. }
+        | Job::Fits { .. } => return None,
     };
     match path {
         Some(path) => Some(path.as_slice()),

@@ -12,6 +12,7 @@ use std::alloc::{AllocError, Global};
 pub const USAGE: &str = "\
 usage: edv edit [--vouched] [--like FILE] [--whole] [-n] [-s] [-p STRING] [-f SCRIPT] [FILE] <SCRIPT
        edv vouch [--like FILE] [--min N] [--max M] [--all] [-q] [--patterns] [--has RE] [-f SCRIPT] [FILE] <SCRIPT
+       edv explain [--like FILE] [--min N] [--max M] [--patterns] [--has RE] [-f SCRIPT] [CERT] <SCRIPT
        edv check [-f SCRIPT] CERT <SCRIPT
        edv run [--whole] [-n] [-s] [-f SCRIPT] CERT [FILE] <SCRIPT
        edv fits CERT [FILE]
@@ -22,6 +23,9 @@ pub const EDIT_USAGE: &str =
 
 pub const VOUCH_USAGE: &str =
     "usage: edv vouch [--like FILE] [--min N] [--max M] [--all] [-q] [--patterns] [--has RE] [-f SCRIPT] [FILE] <SCRIPT\n";
+
+pub const EXPLAIN_USAGE: &str =
+    "usage: edv explain [--like FILE] [--min N] [--max M] [--patterns] [--has RE] [-f SCRIPT] [CERT] <SCRIPT\n";
 
 pub const CHECK_USAGE: &str = "usage: edv check [-f SCRIPT] CERT <SCRIPT\n";
 
@@ -34,6 +38,8 @@ pub const NO_FILE: &str = "error: a file without a name, or named -";
 pub const NO_SCRIPT: &str = "error: a script without a name, or named -";
 
 pub const NO_CERTIFICATE: &str = "error: a certificate without a name, or named -";
+
+pub const BESIDE_CERTIFICATE: &str = "error: a start beside a certificate, which states its own";
 
 pub const LIKE_BESIDE: &str = "error: --like beside --min, --max or --has";
 
@@ -101,7 +107,7 @@ fn meant(text: &str) -> Option<&str> {
 
 /// What is wrong where the first word that `clap` doesn't know is a number below 0 and stands where a bound does.
 fn bound_below_zero(words: &[&str]) -> Option<&'static str> {
-    let [_, "vouch", given @ ..] = words else {
+    let [_, "vouch" | "explain", given @ ..] = words else {
         return None;
     };
     let mut bound = None;
@@ -127,6 +133,7 @@ fn usage_of(words: &[&str]) -> &'static str {
     match words {
         [_, "edit", ..] => EDIT_USAGE,
         [_, "vouch", ..] => VOUCH_USAGE,
+        [_, "explain", ..] => EXPLAIN_USAGE,
         [_, "check", ..] => CHECK_USAGE,
         [_, "run", ..] => RUN_USAGE,
         [_, "fits", ..] => FITS_USAGE,

@@ -141,7 +141,7 @@ fn starts_of(
 }
 
 /// Whether a bound of the start is stated, or a pattern.
-fn states_start(given: &ArgMatches<'_>) -> bool
+pub fn states_start(given: &ArgMatches<'_>) -> bool
     ensures value { result ≡ meaning.states_start (rows_of (found_of given.now)) }
 {
     has_text(given, "min") || has_text(given, "max") || has_text(given, "has")

@@ -23,6 +23,12 @@ returns-in-Vouch-clause-did g c = rw c.in-Vouch.is c.vouch_wanted.ensures.came
 pub returns-in-Judge-clause-did : goal.returns-in-Judge-clause-did
 returns-in-Judge-clause-did g c = rw c.in-Judge.is c.judge_wanted.ensures.came
 
+pub returns-in-Explain-clause-did : goal.returns-in-Explain-clause-did
+returns-in-Explain-clause-did g c = rw c.in-Explain.is c.explain_wanted.ensures.came
+
+pub returns-in-ExplainBy-clause-did : goal.returns-in-ExplainBy-clause-did
+returns-in-ExplainBy-clause-did g c = rw c.in-ExplainBy.is c.explain_at.ensures.came
+
 pub returns-in-Ok-clause-did : goal.returns-in-Ok-clause-did
 returns-in-Ok-clause-did g c = rw c.in-Check.is (meaning.read c.as_slice.result.now c.check_file.ensures.came)
 

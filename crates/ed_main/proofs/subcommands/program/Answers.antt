@@ -17,11 +17,13 @@ returns c =
     record {
       value =
           c.in_ok-command.ensures.shape c.in_ok-fits.ensures.local ∙ ap₂ with_subcommand
-          (c.in_ok-subcommand-4.ensures.shape c.in_ok-run.ensures.local ∙ ap₂ with_subcommand
-          (c.in_ok-subcommand-3.ensures.shape c.in_ok-check.ensures.local ∙ ap₂ with_subcommand
+          (c.in_ok-subcommand-5.ensures.shape c.in_ok-run.ensures.local ∙ ap₂ with_subcommand
+          (c.in_ok-subcommand-4.ensures.shape c.in_ok-check.ensures.local ∙ ap₂ with_subcommand
+          (c.in_ok-subcommand-3.ensures.shape c.in_ok-explain.ensures.local ∙ ap₂ with_subcommand
           (c.in_ok-subcommand-2.ensures.shape c.in_ok-vouch.ensures.local ∙ ap₂ with_subcommand
           (c.in_ok-subcommand.ensures.shape c.in_ok-edit.ensures.local ∙ ap₂ with_subcommand bare_is (ap top c.in_ok-edit.ensures.value))
           (ap top c.in_ok-vouch.ensures.value))
+          (ap top c.in_ok-explain.ensures.value))
           (ap top c.in_ok-check.ensures.value))
           (ap top c.in_ok-run.ensures.value))
           (ap top c.in_ok-fits.ensures.value);
