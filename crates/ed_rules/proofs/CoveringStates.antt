@@ -1,5 +1,5 @@
 -- Covering is an order of states but for what they say of single lines. What unites two states covers both.
-use Rattle.std.proofs.Common.{◌≡◌, ◌<◌, ℕ, Bool, true, false, ◌&&◌, List, Option, None, Some, ◌∙◌, refl, sym, arith}
+use Rattle.std.proofs.Common.{◌≡◌, ◌<◌, ◌==◌, ◌||◌, ℕ, Bool, true, false, ◌&&◌, List, Option, None, Some, ◌∙◌, refl, sym, arith}
 use Rattle.std.proofs.lemmas.List.FromFn.{get_or-map-range_with_len}
 use Rattle.std.proofs.lemmas.Bool.{and_parts, or_left, or_right}
 use Rattle.zones.specs.Zone as zones
@@ -14,7 +14,10 @@ use Rattle.ed_rules.specs.Marks.{is_sure, both_sure}
 use Rattle.ed_rules.specs.KnownMatches.{old_has_of_both, CoversOldHas}
 use Rattle.ed_rules.specs.States.{old_without_facts, without_facts}
 use Rattle.ed_rules.specs.Order.{old_of_both, united, join, widen, CoversOld, Covers}
-use Rattle.ed_rules.proofs.facts.FactsOrdered.{cover-itself, cover-both, cover-both_other, cover-on}
+use Rattle.ed_rules.specs.Following.{may_name, spoken_facts}
+use Rattle.ed_rules.specs.facts.Facts.{LineFact, Stretch, Facts, end}
+use Rattle.ed_rules.specs.facts.FactOrder.{both_facts, cover_facts}
+use Rattle.ed_rules.proofs.facts.FactsOrdered.{cover-fewer, cover-itself, cover-both, cover-both_other, cover-on}
 use Rattle.ed_rules.proofs.Texting.{members-same, members-through, members-both, members-both_other}
 use Rattle.ed_rules.proofs.Choosing.{has_choice-all, has-union, has-union_other, choices-more, choices-same}
 
@@ -37,6 +40,14 @@ sure-both one other letter l e =
     and_parts (is_sure one letter) (is_sure other letter)
     (sym (get_or-map-range_with_len (λ (k : ℕ). is_sure one k && is_sure other k) 0 26 letter letter false l (omega arith)) ∙ e)
 
+-- FACTS OF SURE LETTERS
+
+spoken-cover : (marks : List Bool) (facts : Facts) (zone : Bounds) (strong : Facts) → cover_facts facts zone strong ≡ true →
+    cover_facts (spoken_facts marks facts) zone strong ≡ true
+spoken-cover marks facts zone strong e =
+    cover-fewer (λ (f : LineFact). may_name marks f.name)
+    (λ (s : Stretch). (s.after == end || may_name marks s.after) && (s.before == end || may_name marks s.before)) facts zone strong e
+
 -- WHAT UNDO KEEPS
 
 old-same : (old : Option Old) → CoversOld old old
@@ -55,7 +66,8 @@ old-both (Some one) None = old-same (Some one)
 old-both (Some one) (Some other) = (
   Covers-join_of one.zone other.zone,
   λ letter l e. (sure-both one.marks other.marks letter l e).0,
-  cover-both one.facts other.facts other.zone one.zone,
+  spoken-cover (both_sure one.marks other.marks) (both_facts one.facts other.zone other.facts) one.zone one.facts
+      (cover-both one.facts other.facts other.zone one.zone),
 )
 
 pub old-both_other : (one other : Option Old) → CoversOld (old_of_both one other) other
@@ -64,7 +76,8 @@ old-both_other None (Some other) = old-same (Some other)
 old-both_other (Some one) (Some other) = (
   Covers-join_of_other one.zone other.zone,
   λ letter l e. (sure-both one.marks other.marks letter l e).1,
-  cover-both_other one.facts other.facts other.zone,
+  spoken-cover (both_sure one.marks other.marks) (both_facts one.facts other.zone other.facts) other.zone other.facts
+      (cover-both_other one.facts other.facts other.zone),
 )
 
 -- what covered an earlier buffer does so once it is joined with another
@@ -75,7 +88,8 @@ old-on (Some one) None (Some strong) h = h
 old-on (Some one) (Some other) (Some strong) h = (
   Covers-through (join_of one.zone other.zone) one.zone strong.zone (Covers-join_of one.zone other.zone) h.0,
   λ letter l e. h.1 letter l ((sure-both one.marks other.marks letter l e).0),
-  cover-on one.facts other.facts other.zone strong.zone strong.facts h.2,
+  spoken-cover (both_sure one.marks other.marks) (both_facts one.facts other.zone other.facts) strong.zone strong.facts
+      (cover-on one.facts other.facts other.zone strong.zone strong.facts h.2),
 )
 
 -- WHAT LINES MATCH OF WHAT UNDO KEEPS
@@ -160,7 +174,8 @@ united-covers one other zone z = record {
     has = members-both one.matches.has other.matches.has;
     old_has = matched-both one.undo.was other.undo.was one.matches.old_has other.matches.old_has;
   };
-  facts = cover-both one.facts other.facts other.zone one.zone;
+  facts = spoken-cover (both_sure one.marks other.marks) (both_facts one.facts other.zone other.facts) one.zone one.facts
+      (cover-both one.facts other.facts other.zone one.zone);
 }
 
 united-covers_other : (one other : State) (zone : Bounds) → zones.Covers zone other.zone → Covers (united one other zone) other
@@ -181,7 +196,8 @@ united-covers_other one other zone z = record {
     has = members-both_other one.matches.has other.matches.has;
     old_has = matched-both_other one.undo.was other.undo.was one.matches.old_has other.matches.old_has;
   };
-  facts = cover-both_other one.facts other.facts other.zone;
+  facts = spoken-cover (both_sure one.marks other.marks) (both_facts one.facts other.zone other.facts) other.zone other.facts
+      (cover-both_other one.facts other.facts other.zone);
 }
 
 -- what covered the first of two states covers what unites them
@@ -203,7 +219,8 @@ united-on one other strong zone z h =
       same = t.same;
       was = old-on one.undo.was other.undo.was strong.undo.was h.was;
       matches = record { has = t.matches.has; old_has = t.matches.old_has };
-      facts = cover-on one.facts other.facts other.zone strong.zone strong.facts h.facts;
+      facts = spoken-cover (both_sure one.marks other.marks) (both_facts one.facts other.zone other.facts) strong.zone strong.facts
+          (cover-on one.facts other.facts other.zone strong.zone strong.facts h.facts);
     }
 
 pub Covers-join : (one other : State) → Covers (join one other) one

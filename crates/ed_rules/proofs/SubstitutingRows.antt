@@ -24,7 +24,7 @@ substitutions =
     -- where single lines aren't followed, nothing is known of them
     ∷ row ((s : State) (text : List ℕ) → is_known_line (record s { follows = false }) text ≡ false) (λ s text. refl)  -- no line is followed
     -- without a match only a list goes on
-    ∷ row ((start s : State) → substituted_if false false start s ≡ Err fault.NoMatch) (λ start s. refl)  -- no match
+    ∷ row ((start s : State) → substituted_if false false false start s ≡ Err fault.NoMatch) (λ start s. refl)  -- no match
     -- `%` needs a replacement, in a list one without a split; an empty pattern needs a pattern
     ∷ row ((s : State) → replacement_used false None (record s { replacements = no_replacement }) ≡ Err fault.Replacement) (λ s. refl)  -- no replacement is remembered
     ∷ []

@@ -1,5 +1,5 @@
 -- Joining, widening and comparing states: the joined state says what both say, and one covers another that says no less.
-use Rattle.std.specs.Prelude.{◌≡◌, true, Bool, ◌||◌, Option, Some, None}
+use Rattle.std.specs.Prelude.{◌≡◌, true, Bool, ◌||◌, List, Option, Some, None}
 use Rattle.zones.specs.Zone as zones
 use Rattle.zones.specs.Zone.{Bounds}
 use Rattle.zones.specs.Steps.{join_of, widening_of}
@@ -11,7 +11,13 @@ use Rattle.ed_rules.specs.declared.state.State.{State}
 use Rattle.ed_rules.specs.Choices.{union, are_choices}
 use Rattle.ed_rules.specs.Marks.{both_sure, AreAmong}
 use Rattle.ed_rules.specs.KnownMatches.{matches_of_both, CoversMatches}
+use Rattle.ed_rules.specs.Following.{spoken_facts}
+use Rattle.ed_rules.specs.facts.Facts.{Facts}
 use Rattle.ed_rules.specs.facts.FactOrder.{both_facts, cover_facts}
+
+-- the facts that both sides say, of letters that are sure on both
+abbrev pub facts_of_both : (marks : List Bool) → (one : Facts) → (zone : Bounds) → (other : Facts) → Facts
+facts_of_both marks one zone other = spoken_facts marks (both_facts one zone other)
 
 -- where one side has no earlier buffer, the other's stands
 abbrev pub old_of_both : Option Old → Option Old → Option Old
@@ -20,7 +26,7 @@ old_of_both (Some one) None = Some one
 old_of_both (Some one) (Some other) = Some (record {
   zone = join_of one.zone other.zone;
   marks = both_sure one.marks other.marks;
-  facts = both_facts one.facts other.zone other.facts;
+  facts = facts_of_both (both_sure one.marks other.marks) one.facts other.zone other.facts;
 })
 
 abbrev pub changed_of_both : Changed → Changed → Changed
@@ -48,7 +54,7 @@ united one other zone = record {
   undo = undo_of_both one.undo other.undo;
   matches = matches_of_both one.undo.was other.undo.was one.matches other.matches;
   follows = one.follows;
-  facts = both_facts one.facts other.zone other.facts;
+  facts = facts_of_both (both_sure one.marks other.marks) one.facts other.zone other.facts;
 }
 
 -- the strongest state that says what both say

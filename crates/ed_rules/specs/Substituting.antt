@@ -3,6 +3,7 @@ use Rattle.std.specs.Prelude.{ℕ, pos, negsuc, Bool, true, false, ◌&&◌, ◌
 use Rattle.std.specs.List.{list_all, list_any}
 use Rattle.ed_base.specs.declared.fault.Fault.{Fault}
 use Rattle.ed_base.specs.declared.fault.Fault.TheVariants as fault
+use Rattle.zones.specs.Name as name
 use Rattle.zones.specs.Name.{current_line, last_line, first_address, second_address, mark}
 use Rattle.zones.specs.Zone.{Bounds}
 use Rattle.zones.specs.Known.{known, greatest}
@@ -15,11 +16,13 @@ use Rattle.ed_rules.specs.declared.state.Replacements.{Replacements}
 use Rattle.ed_rules.specs.declared.state.State.{State}
 use Rattle.ed_rules.specs.Marks.{for_each_sure}
 use Rattle.ed_rules.specs.Choices.{Choice}
+use Rattle.ed_rules.specs.Texts.{is_member}
 use Rattle.ed_rules.specs.StandsFor.{ends_line}
 use Rattle.ed_rules.specs.Order.{join}
 use Rattle.ed_rules.specs.Pieces.{needing, with_zone, guarded_by, modified, mark_lost}
 use Rattle.ed_rules.specs.Addresses.{is_always, possible_patterns}
-use Rattle.ed_rules.specs.facts.Facts.{tells}
+use Rattle.ed_rules.specs.facts.Facts.{LineFact, at, le, tells}
+use Rattle.ed_rules.specs.facts.FoundLines.{matches_it}
 
 -- WHAT IT NEEDS
 
@@ -65,6 +68,28 @@ matches_each s (Some text) = is_always (Some text) || is_known_line s text
 abbrev pub is_sure_to_match : State → Which → Bool
 is_sure_to_match s choice = list_all (matches_each s) s.patterns && takes_first choice
 
+-- all lines are addressed
+abbrev pub takes_all : Bounds → Bool
+takes_all zone = known zone first_address name.zero (pos 1) && known zone last_line second_address (pos 0)
+
+-- the fact says that its line matches the pattern, and the line is one of those that are addressed
+abbrev pub is_match_among : Bounds → (pattern : List ℕ) → LineFact → Bool
+is_match_among zone text f =
+    matches_it text f && (le zone (at first_address) (at f.name) (pos 0) && le zone (at f.name) (at second_address) (pos 0))
+
+-- one of the addressed lines is known to match the pattern; or all lines are addressed, and some line is known to match it
+abbrev pub is_matched_among : State → (pattern : List ℕ) → Bool
+is_matched_among s text = list_any (is_match_among s.zone text) s.facts.lines || (takes_all s.zone && is_member s.matches.has text)
+
+-- the pattern has a match in some addressed line, or in every line
+abbrev pub matches_some : State → Choice → Bool
+matches_some s None = false
+matches_some s (Some text) = is_matched_among s text || is_always (Some text)
+
+-- single lines are followed, and there is something to be replaced in some addressed line
+abbrev pub is_sure_of_some : State → Which → Bool
+is_sure_of_some s choice = s.follows && (list_all (matches_some s) s.patterns && takes_first choice)
+
 -- WHAT IT LEAVES
 
 -- One mark: after the lines it stays, or goes down by what splits may add; before them it stays; among them it may be lost.
@@ -99,20 +124,30 @@ surely_substituted listed start s =
     let t = marks_substituted s.replacements.split s in
     modified listed start (with_zone (current_substituted s.replacements.split s.zone t.zone) t)
 
--- a substitution, without a split, in some of the lines at least
+-- The current line after a substitution in some of the lines at least: it is one of those that are then in their place. Where lines may be
+-- split, there may be more of them.
+unfoldable pub current_within : (splits : Bool) → Bounds → Bounds
+current_within true zone =
+    after_guard (after_guard (after_forget (after_shift zone last_line (Some (pos 0)) None) current_line) first_address current_line (pos 0))
+    current_line last_line (pos 0)
+current_within false zone =
+    after_guard (after_guard (after_forget zone current_line) first_address current_line (pos 0)) current_line second_address (pos 0)
+
+-- a substitution in some of the lines at least
 unfoldable pub partly_substituted : (listed : Bool) → (start : State) → State → State
 partly_substituted listed start s =
-    let t = marks_substituted false s in
-    modified listed start
-    (with_zone (after_guard (after_guard (after_forget t.zone current_line) first_address current_line (pos 0)) current_line second_address (pos 0)) t)
+    let t = marks_substituted s.replacements.split s in
+    modified listed start (with_zone (current_within s.replacements.split t.zone) t)
 
--- by whether it is sure; where it isn't, only a list may go on without a match
-abbrev pub substituted_if : (sure listed : Bool) → (start : State) → State → Result State Fault
-substituted_if true listed start s = Ok (surely_substituted listed start s)
-substituted_if false true start s = Ok (join s (partly_substituted true start s))
-substituted_if false false start s = Err fault.NoMatch
+-- By whether it is sure of each line, or of some; where it is sure of none, only a list may go on without a match.
+abbrev pub substituted_if : (each some listed : Bool) → (start : State) → State → Result State Fault
+substituted_if true some listed start s = Ok (surely_substituted listed start s)
+substituted_if false true listed start s = Ok (partly_substituted listed start s)
+substituted_if false false true start s = Ok (join s (partly_substituted true start s))
+substituted_if false false false start s = Err fault.NoMatch
 
 -- `s`: its own replacement and pattern become the only ones that may be remembered
 abbrev pub substituted : (listed : Bool) → Option (List ℕ) → Option (List Part) → Which → (start : State) → State → Result State Fault
 substituted listed pattern replacement choice start s =
-    replacement_used listed replacement s >> pattern_used pattern >> λ t. substituted_if (is_sure_to_match t choice) listed start t
+    replacement_used listed replacement s >> pattern_used pattern >> λ t.
+    substituted_if (is_sure_to_match t choice) (is_sure_of_some t choice) listed start t

@@ -15,6 +15,8 @@ ghost use Rattle.zones.specs.Known.{known};
 ghost use Rattle.zones.specs.Name as name;
 ghost use Rattle.zones.specs.Name.{last_line};
 ghost use Rattle.ed_rules.specs.Addresses.{is_always, is_found};
+ghost use Rattle.ed_rules.specs.Substituting.{takes_first, is_sure_to_match, is_sure_of_some};
+ghost use Rattle.ed_syntax.specs.declared.replacement.Which.{Which};
 ghost use Rattle.ed_syntax.specs.Commands.{Verb, Command, Step, Script};
 ghost use Rattle.ed_rules.specs.Soundness.{CommandIsSound};
 ghost use Rattle.ed_rules.specs.ExactRules.{CommandIsExact, StartIsExact};
@@ -130,4 +132,12 @@ pub fn matches_stay_formed()
 pub fn searches_are_as_before()
     ensures need { (s : State) (c : Choice) (set : List Choice) → s.matches.has ≡ [] → s.follows ≡ false →
         list_all (is_found s) (c ∷ set) ≡ (known s.zone name.zero last_line (negsuc 0) && list_all is_always (c ∷ set)) }
+{}
+
+/// Where single lines aren't followed, `s` is vouched for as in certificates that tell nothing of them: where each line surely matches, or in
+/// a list.
+pub fn substitutions_are_as_before()
+    ensures each { (s : State) (choice : Which) → s.follows ≡ false →
+        is_sure_to_match s choice ≡ (list_all is_always s.patterns && takes_first choice) }
+    ensures some { (s : State) (choice : Which) → s.follows ≡ false → is_sure_of_some s choice ≡ false }
 {}

@@ -42,7 +42,7 @@ pub use known_matches::Matches;
 pub use laws::{
     commands_are_sound, exact_commands_are_exact, globals_are_sound, joined_states_are_covered,
     matches_stay_formed, needs_are_the_same_whatever_is_watched, searches_are_as_before,
-    states_stay_formed, weaker_states_stand_for_more,
+    states_stay_formed, substitutions_are_as_before, weaker_states_stand_for_more,
 };
 pub use line_bounds::LineBounds;
 pub use line_facts::{

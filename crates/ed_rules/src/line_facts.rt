@@ -17,6 +17,8 @@ pub use backward::search_backward;
 use ed_base::Bytes;
 pub use forward::search_forward;
 pub use found::is_witnessed;
+pub(crate) use found::matches_it;
+pub(crate) use known::is_at_most;
 use std::alloc::{AllocError, Global};
 use std::marker::Model;
 use zones::Name;

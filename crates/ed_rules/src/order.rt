@@ -3,11 +3,11 @@
 ghost use Rattle.std.specs.Prelude.{◌≡◌, IfOk, IsTrue, ◌↔◌};
 ghost use Rattle.ed_syntax.specs.meaning.States as editor;
 ghost use Rattle.ed_rules.specs.StandsFor.{StandsFor};
-ghost use Rattle.ed_rules.specs.facts.FactOrder.{both_facts};
-ghost use Rattle.ed_rules.specs.Order.{old_of_both, changed_of_both, replacements_of_both, undo_of_both, united, join, widen, Allows, CoversOld, Covers};
+ghost use Rattle.ed_rules.specs.Order.{facts_of_both, old_of_both, changed_of_both, replacements_of_both, undo_of_both, united, join, widen, Allows, CoversOld, Covers};
 
 use crate::laws::joined_states_are_covered;
 use crate::line_facts::LineFacts;
+use crate::marks::Marks;
 use crate::state::{Changed, Old, Replacements, State, Undo, copied_old};
 use std::alloc::AllocError;
 use zones::Zone;
@@ -59,9 +59,11 @@ impl State {
     fn united(&self, other: &State, zone: Zone) -> Result<State, AllocError>
         ensures value { IfOk result (λ both. both ≡ united self.now other.now zone) }
     {
+        let marks = self.marks.both(&other.marks);
+        let facts = facts_of_both(&marks, &self.facts, &other.zone, &other.facts)?;
         Ok(State {
             zone,
-            marks: self.marks.both(&other.marks),
+            marks,
             patterns: self.patterns.union(&other.patterns)?,
             replacements: replacements_of_both(&self.replacements, &other.replacements),
             names: self.names.union(&other.names)?,
@@ -71,7 +73,7 @@ impl State {
                 .matches
                 .both(&self.undo.was, &other.matches, &other.undo.was)?,
             follows: self.follows,
-            facts: facts_of_both(&self.facts, &other.zone, &other.facts)?,
+            facts,
         })
     }
 
@@ -146,12 +148,18 @@ pub(crate) fn undo_of_both(one: &Undo, other: &Undo) -> Result<Undo, AllocError>
     })
 }
 
-/// Of the facts of one side those that the other side says too.
-fn facts_of_both(one: &LineFacts, zone: &Zone, other: &LineFacts) -> Result<LineFacts, AllocError>
-    ensures value { IfOk result (λ both. both ≡ both_facts one.now zone.now other.now) }
+/// Of the facts of one side those that the other side says too, of letters that are sure on both.
+fn facts_of_both(
+    marks: &Marks,
+    one: &LineFacts,
+    zone: &Zone,
+    other: &LineFacts,
+) -> Result<LineFacts, AllocError>
+    ensures value { IfOk result (λ both. both ≡ facts_of_both marks.now one.now zone.now other.now) }
 {
     let mut facts = one.try_copy()?;
     facts.keep_both(zone, other);
+    facts.keep_spoken(marks);
     Ok(facts)
 }
 
@@ -162,11 +170,9 @@ fn old_of_both(one: &Option<Old>, other: &Option<Old>) -> Result<Option<Old>, Al
         (Some(one), Some(other)) => {
             let mut zone = one.zone;
             zone.join(&other.zone);
-            Ok(Some(Old {
-                zone,
-                marks: one.marks.both(&other.marks),
-                facts: facts_of_both(&one.facts, &other.zone, &other.facts)?,
-            }))
+            let marks = one.marks.both(&other.marks);
+            let facts = facts_of_both(&marks, &one.facts, &other.zone, &other.facts)?;
+            Ok(Some(Old { zone, marks, facts }))
         }
         (Some(one), None) => Ok(Some(one.try_copy()?)),
         (None, other) => copied_old(other),

@@ -1,14 +1,17 @@
 //! The rule of `s` (XCU ed, "Substitute Command").
 
-ghost use Rattle.std.specs.Prelude.{◌≡◌, IfOk, OnOk};
+ghost use Rattle.std.specs.Prelude.{◌≡◌, pos, None, Some, IfOk, OnOk};
 ghost use Rattle.std.specs.List.{list_all, list_any};
+ghost use Rattle.zones.specs.Name.{last_line};
+ghost use Rattle.zones.specs.Steps.{after_shift};
 ghost use Rattle.ed_rules.specs.Marks.{for_each_sure};
 ghost use Rattle.ed_rules.specs.StandsFor.{ends_line};
-ghost use Rattle.ed_rules.specs.Substituting.{kind_of, replacement_used, pattern_used, takes_first, is_known_line, matches_each, is_sure_to_match, mark_substituted, current_split, surely_substituted, partly_substituted, substituted};
+ghost use Rattle.ed_rules.specs.Substituting.{kind_of, replacement_used, pattern_used, takes_first, is_known_line, matches_each, is_sure_to_match, takes_all, is_match_among, is_matched_among, matches_some, is_sure_of_some, mark_substituted, current_split, current_within, surely_substituted, partly_substituted, substituted};
 ghost use Rattle.ed_rules.specs.Reaching.{Reaches};
 
 use crate::addresses::choice_matches_always;
 use crate::choices::Choices;
+use crate::line_facts::{KnownLine, LineFacts, is_at_most, matches_it};
 use crate::marks::Marks;
 use crate::pieces::{guard_by, wide};
 use crate::state::{Replacements, State};
@@ -53,8 +56,8 @@ fn kind_of(replacement: &Replacement) -> Replacements
 }
 
 /// The first of the matches on a line is replaced, or all.
-fn takes_first(which: Which) -> bool
-    ensures value { result ≡ takes_first which }
+fn takes_first(which: &Which) -> bool
+    ensures value { result ≡ takes_first which.now }
 {
     match which {
         Which::First | Which::All => true,
@@ -62,18 +65,71 @@ fn takes_first(which: Which) -> bool
     }
 }
 
-/// Lines may be split: there may be more of them, and the current one is as far from the last one as the second address was.
+/// Lines may be split: there may be more of them.
+fn allow_more_lines(zone: &mut Zone)
+    ensures exact { zone.new ≡ after_shift zone.old last_line (Some (pos 0)) None }
+{
+    zone.shift(Name::LAST_LINE, Some(0), None);
+}
+
+/// Lines may be split, and each is substituted in: the current line is as far from the last one as the second address was.
 #[tactic(auto, unfolding(crate::specs::Substituting::current_split))]
 fn set_current_split(zone: &mut Zone, before: &Zone)
     ensures exact { zone.new ≡ current_split before.now zone.old }
 {
     let below = before.bound(Name::SECOND_ADDRESS, Name::LAST_LINE);
     let above = before.bound(Name::LAST_LINE, Name::SECOND_ADDRESS);
-    zone.shift(Name::LAST_LINE, Some(0), None);
+    allow_more_lines(zone);
     zone.forget(Name::CURRENT_LINE);
     zone.guard(Name::SECOND_ADDRESS, Name::CURRENT_LINE, 0);
     guard_by(zone, Name::CURRENT_LINE, Name::LAST_LINE, wide(below));
     guard_by(zone, Name::LAST_LINE, Name::CURRENT_LINE, wide(above));
+}
+
+/// Lines may be split or not, and some are substituted in: the current line is one of those that are then in their place.
+#[tactic(auto, unfolding(crate::specs::Substituting::current_within))]
+fn set_current_within(zone: &mut Zone, splits: bool)
+    ensures exact { zone.new ≡ current_within splits zone.old }
+{
+    if splits {
+        allow_more_lines(zone);
+    }
+    zone.forget(Name::CURRENT_LINE);
+    zone.guard(Name::FIRST_ADDRESS, Name::CURRENT_LINE, 0);
+    if splits {
+        zone.guard(Name::CURRENT_LINE, Name::LAST_LINE, 0);
+    } else {
+        zone.guard(Name::CURRENT_LINE, Name::SECOND_ADDRESS, 0);
+    }
+}
+
+/// Whether all lines are addressed.
+fn takes_all(zone: &Zone) -> bool
+    ensures value { result ≡ takes_all zone.now }
+{
+    zone.is_known(Name::FIRST_ADDRESS, Name::ZERO, 1)
+        && zone.is_known(Name::LAST_LINE, Name::SECOND_ADDRESS, 0)
+}
+
+/// Whether the fact says that one of the addressed lines matches the pattern.
+fn is_match_among(zone: &Zone, pattern: &[u8], fact: &KnownLine) -> bool
+    ensures value { result ≡ is_match_among zone.now pattern.now fact.now }
+{
+    matches_it(pattern, fact)
+        && is_at_most(zone, Name::FIRST_ADDRESS, 0, fact.name, 0, 0)
+        && is_at_most(zone, fact.name, 0, Name::SECOND_ADDRESS, 0, 0)
+}
+
+/// Whether a fact says so.
+fn some_match_among(zone: &Zone, pattern: &[u8], facts: &LineFacts) -> bool
+    ensures value { result ≡ list_any (is_match_among zone.now pattern.now) facts.now.lines }
+{
+    for fact in &facts.lines {
+        if is_match_among(zone, pattern, fact) {
+            return true;
+        }
+    }
+    false
 }
 
 impl State {
@@ -143,11 +199,55 @@ impl State {
     }
 
     /// Whether something is replaced in each of the addressed lines.
-    fn is_sure_to_match(&self, which: Which) -> Result<bool, AllocError>
-        ensures value { IfOk result (λ sure. sure ≡ is_sure_to_match self.now which) }
+    fn is_sure_to_match(&self, which: &Which) -> Result<bool, AllocError>
+        ensures value { IfOk result (λ sure. sure ≡ is_sure_to_match self.now which.now) }
     {
         let each = self.all_match_each()?;
         Ok(each && takes_first(which))
+    }
+
+    /// Whether one of the addressed lines is known to match a pattern; or all lines are addressed, and some line is known to match it.
+    fn is_matched_among(&self, pattern: &[u8]) -> bool
+        ensures value { result ≡ is_matched_among self.now pattern.now }
+    {
+        some_match_among(&self.zone, pattern, &self.facts)
+            || (takes_all(&self.zone) && self.matches.has.has(pattern))
+    }
+
+    /// Whether a pattern that may be looked for has a match in some addressed line.
+    fn matches_some(&self, choice: &Option<Bytes>) -> Result<bool, AllocError>
+        ensures value { IfOk result (λ some. some ≡ matches_some self.now choice.now) }
+    {
+        let Some(text) = choice else {
+            return Ok(false);
+        };
+        if self.is_matched_among(text.as_slice()) {
+            return Ok(true);
+        }
+        choice_matches_always(self.patterns.allocator(), choice)
+    }
+
+    /// The same of each of them.
+    fn all_match_some(&self) -> Result<bool, AllocError>
+        ensures value { IfOk result (λ some. some ≡ list_all (matches_some self.now) self.now.patterns) }
+    {
+        for choice in self.patterns.members() {
+            if !self.matches_some(choice)? {
+                return Ok(false);
+            }
+        }
+        Ok(true)
+    }
+
+    /// Whether single lines are followed, and something is replaced in some addressed line.
+    fn is_sure_of_some(&self, which: &Which) -> Result<bool, AllocError>
+        ensures value { IfOk result (λ sure. sure ≡ is_sure_of_some self.now which.now) }
+    {
+        if !self.follows {
+            return Ok(false);
+        }
+        let some = self.all_match_some()?;
+        Ok(some && takes_first(which))
     }
 
     #[tactic(auto, unfolding(crate::specs::Substituting::mark_substituted))]
@@ -192,16 +292,15 @@ impl State {
         self.modify(listed, start)
     }
 
-    /// A substitution, without a split, in some of the lines at least.
+    /// A substitution in some of the lines at least.
     #[tactic(auto, unfolding(crate::specs::Substituting::partly_substituted))]
     fn substitute_partly(&mut self, listed: bool, before: &State) -> Result<(), AllocError>
         ensures exact { OnOk result (self.new ≡ partly_substituted listed before.now self.old) }
     {
+        let split = self.replacements.split;
         let marks = self.marks;
-        self.substitute_marks(false, &marks);
-        self.zone.forget(Name::CURRENT_LINE);
-        self.zone.guard(Name::FIRST_ADDRESS, Name::CURRENT_LINE, 0);
-        self.zone.guard(Name::CURRENT_LINE, Name::SECOND_ADDRESS, 0);
+        self.substitute_marks(split, &marks);
+        set_current_within(&mut self.zone, split);
         self.modify(listed, before)
     }
 
@@ -219,8 +318,10 @@ impl State {
     {
         self.use_replacement(listed, replacement)?;
         self.use_pattern(pattern)?;
-        if self.is_sure_to_match(which)? {
+        if self.is_sure_to_match(&which)? {
             self.substitute_surely(listed, before)?;
+        } else if self.is_sure_of_some(&which)? {
+            self.substitute_partly(listed, before)?;
         } else if listed {
             // In a list it may be that no line matches.
             let mut some = self.try_copy()?;

@@ -212,6 +212,15 @@ cover-both_other one other zone =
     (all-each (says_line zone other) (filter (says_line zone other) one.lines) (λ f c. (filtered (says_line zone other) one.lines f c).1))
     (all-each (says_clear zone other) (filter (says_clear zone other) one.clear) (λ s c. (filtered (says_clear zone other) one.clear s c).1))
 
+-- fewer facts are covered too
+pub cover-fewer : (p : LineFact → Bool) (q : Stretch → Bool) (facts : Facts) (zone : Bounds) (strong : Facts) → cover_facts facts zone strong ≡ true →
+    cover_facts (record { lines = filter p facts.lines; clear = filter q facts.clear }) zone strong ≡ true
+cover-fewer p q facts zone strong e =
+    let b = and_parts (list_all (says_line zone strong) facts.lines) _ e in
+    and_from (list_all (says_line zone strong) (filter p facts.lines)) _
+    (all-filter (says_line zone strong) p facts.lines b.0)
+    (all-filter (says_clear zone strong) q facts.clear b.1)
+
 -- what covered before it was joined or widened covers after it
 pub cover-on : (one other : Facts) (by zone : Bounds) (strong : Facts) → cover_facts one zone strong ≡ true → cover_facts (both_facts one by other) zone strong ≡ true
 cover-on one other by zone strong e =

@@ -77,7 +77,7 @@ pub record IsWitness (number : Numbers) (count : ℕ) (test : ℕ → Bool) (v :
   pub inside : line ≤ count
   pub passes : test line ≡ true
 
-witness-of : (number : Numbers) (lines : List Line) (pattern : List ℕ) (f : LineFact) → LineFactHolds number lines f → matches_it pattern f ≡ true → IsWitness number (length lines) (matches_line pattern lines) f.name
+pub witness-of : (number : Numbers) (lines : List Line) (pattern : List ℕ) (f : LineFact) → LineFactHolds number lines f → matches_it pattern f ≡ true → IsWitness number (length lines) (matches_line pattern lines) f.name
 witness-of number lines pattern f h e =
     let b = and_parts (same_text f.pattern pattern) f.matches e in
     record {

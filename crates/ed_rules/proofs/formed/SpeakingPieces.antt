@@ -15,7 +15,7 @@ use Rattle.ed_rules.specs.Pieces.{guarded_by, mark_bounded, ended, mark_pushed, 
 use Rattle.ed_rules.specs.Addresses.{found}
 use Rattle.ed_rules.specs.Lines.{current_inserted, lifted_range}
 use Rattle.ed_rules.specs.Move.{less, mark_moved_up, moved_up, mark_moved_down, moved_down}
-use Rattle.ed_rules.specs.Substituting.{current_split, current_substituted}
+use Rattle.ed_rules.specs.Substituting.{current_split, current_substituted, current_within}
 use Rattle.ed_rules.specs.Files.{current_read, zone_loaded}
 use Rattle.ed_rules.specs.Globals.{line_taken}
 use Rattle.ed_rules.proofs.sound.Finishing.{for_each_sure-by}
@@ -198,6 +198,14 @@ Inner-current_split marks before zone h =
 pub Inner-current_substituted : (splits : Bool) (marks : List Bool) (before zone : Bounds) → Inner marks zone → Inner marks (current_substituted splits before zone)
 Inner-current_substituted true marks before zone h = Inner-current_split marks before zone h
 Inner-current_substituted false marks before zone h = Inner-set marks zone 1 4 _ refl refl h
+
+pub Inner-current_within : (splits : Bool) (marks : List Bool) (zone : Bounds) → Inner marks zone → Inner marks (current_within splits zone)
+unfolding current_within
+Inner-current_within true marks zone h =
+    Inner-guard marks _ 1 2 _ refl refl
+    (Inner-guard marks _ 3 1 _ refl refl (Inner-forget marks _ 1 (Inner-shift marks zone 2 _ _ refl h)))
+Inner-current_within false marks zone h =
+    Inner-guard marks _ 1 4 _ refl refl (Inner-guard marks _ 3 1 _ refl refl (Inner-forget marks zone 1 h))
 
 -- FILES AND GLOBALS
 

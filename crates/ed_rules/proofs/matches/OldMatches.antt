@@ -22,7 +22,7 @@ use Rattle.ed_rules.specs.Order.{old_of_both, join}
 use Rattle.ed_rules.specs.Pieces.{with_zone, mark_lost, replaced, modified}
 use Rattle.ed_rules.specs.Lines.{joined, joined_given}
 use Rattle.ed_rules.specs.Move.{moved_zone}
-use Rattle.ed_rules.specs.Substituting.{replacement_used, pattern_used, is_sure_to_match, surely_substituted, substituted_if}
+use Rattle.ed_rules.specs.Substituting.{replacement_used, pattern_used, is_sure_to_match, is_sure_of_some, surely_substituted, partly_substituted, substituted_if}
 use Rattle.ed_rules.specs.Files.{named, named_first, maybe_modified}
 use Rattle.ed_rules.specs.Undoing.{present_of, undone_by}
 use Rattle.ed_rules.specs.Matching.{joining, joining_given, how_surely, matches_by_undo, old_matched_by, old_matched_unless, matches_after}
@@ -95,10 +95,11 @@ lasts start s = record {
 -- WHERE A COMMAND MAY CHANGE LINES
 
 -- `s` outside lists
-surely-some : (sure : Bool) (start t : State) → IfOk (substituted_if sure false start t) (λ r. is_some r.undo.was ≡ true)
-unfolding surely_substituted
-surely-some true start t = refl
-surely-some false start t = tt
+surely-some : (sure some : Bool) (start t : State) → IfOk (substituted_if sure some false start t) (λ r. is_some r.undo.was ≡ true)
+unfolding surely_substituted partly_substituted
+surely-some true some start t = refl
+surely-some false true start t = refl
+surely-some false false start t = tt
 
 module _ (given : Addresses) (start s : State) where
   -- `j` outside lists
@@ -141,7 +142,7 @@ module _ (given : Addresses) (start s : State) where
   altered-some (ed.Copy to) h = refl
   altered-some (ed.Substitute pattern replacement choice form) h =
       IfOk-after (λ (r : State). is_some r.undo.was ≡ true) (replacement_used false replacement s >> pattern_used pattern) _
-      (λ t. surely-some (is_sure_to_match t choice) start t)
+      (λ t. surely-some (is_sure_to_match t choice) (is_sure_of_some t choice) start t)
   altered-some (ed.ReadFile path) h =
       IfOk-after (λ (r : State). is_some r.undo.was ≡ true) (named path s) _
       (λ t. some-other (named_first path t).undo.was (old_of start))

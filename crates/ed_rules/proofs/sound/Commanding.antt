@@ -142,11 +142,12 @@ pub range-with : (E : Numbers → Type 0) (t : State) (e : editor.State) (vs : L
     Agrees (RangeWith E e) (ranged t) (spanned many.Range count vs)
 range-with E t e vs v count st n extra = range-also (λ u. E) t e vs v count st n extra
 
--- a range, where what is said of single lines is true
+-- a range, where what is said of matches and of single lines is true
 pub range-known : (a : Addresses) → IsGiven a → (t : State) (p : editor.State × List ℕ) (count : ℕ) → Addressed (NamesOf a) t p →
     Agrees (λ u x. RangesKnown u p.0 x) (ranged t) (spanned many.Range count p.1)
 range-known a g t p count h =
-    range-also (λ u v. FollowedHold u v p.0.lines) t p.0 p.1 h.numbers count h.stands (names-given a g p.1 p.0.lines h.numbers h.names) h.followed
+    range-also (λ u v. FollowedHold u v p.0.lines × AreMatched u.matches.has p.0.lines) t p.0 p.1 h.numbers count h.stands
+    (names-given a g p.1 p.0.lines h.numbers h.names) (h.followed, h.matched)
 
 abbrev pub Nothing_more : Numbers → Type 0
 Nothing_more v = Unit {0}

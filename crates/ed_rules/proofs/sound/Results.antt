@@ -1,8 +1,8 @@
 -- What a substitution makes of lines: how many there are, which letters mark none, and where the last one that was made is.
-use Rattle.std.proofs.Common.{◌≡◌, ◌≢◌, ◌≤◌, ℕ, suc, ◌+◌, ◌-◌, Bool, true, false, cond, ◌||◌, List, [], ◌∷◌, ◌++◌, map, take, drop, length, length-append, Option, None, Some, option_map, Ok, Err, arith, refl, sym, ◌∙◌, ap, subst, nat_le, All, IsSome, IsTrue}
+use Rattle.std.proofs.Common.{◌≡◌, ◌≢◌, ◌≤◌, inl, inr, ℕ, suc, ◌+◌, ◌-◌, Bool, true, false, cond, ◌||◌, List, [], ◌∷◌, ◌++◌, map, take, drop, length, length-append, Option, None, Some, option_map, Ok, Err, arith, refl, sym, ◌∙◌, ap, subst, nat_le, All, IsSome, IsTrue}
 use Rattle.std.specs.Prelude.{unwrap_or, slice_index_or}
 use Rattle.std.specs.List.{list_any, flat_map}
-use Rattle.std.proofs.lemmas.Bool.{eqb-true, eqb-false, le-leb}
+use Rattle.std.proofs.lemmas.Bool.{eqb-true, eqb-false, le-leb, or_cases}
 use Rattle.std.proofs.lemmas.List.{length-map}
 use Rattle.std.proofs.lemmas.List.Concat.{flat_map-cons}
 use Rattle.std.proofs.lemmas.List.Elements.{All-nil, All-cons, All-head, All-tail, All-append, All-take, All-drop}
@@ -138,6 +138,26 @@ module _ (f : Maker) where
       let q : IsMade line = All-head IsMade line ls makes in
       subst (λ (o : Option (List (List ℕ))). (onto line o (each f ls)).1 ≡ Some (length (onto line o (each f ls)).0)) (sym q.1)
       (all-onto line q.0 (each f ls) (results-unwrapped ls (All-tail IsMade line ls makes)))
+
+  -- where something comes of one line, some line was made
+  some-onto : (line : Line) (o : Option (List (List ℕ))) (later : Results) (n : ℕ) → later.1 ≡ Some n →
+      (m : ℕ) × ((onto line o later).1 ≡ Some m)
+  some-onto line None (ls, Some n) n' e = (1 + n, refl)
+  some-onto line None (ls, None) n e = absurd cc
+  some-onto line (Some ts) later n e = (length ts + unwrap_or later.1 0, refl)
+
+  made-onto : (line : Line) (o : Option (List (List ℕ))) (later : Results) (ts : List (List ℕ)) → o ≡ Some ts →
+      (m : ℕ) × ((onto line o later).1 ≡ Some m)
+  made-onto line None later ts e = absurd cc
+  made-onto line (Some us) later ts e = (length us + unwrap_or later.1 0, refl)
+
+  pub results-some : (p : List ℕ → Bool) → ((line : List ℕ) → p line ≡ true → (ts : List (List ℕ)) × (f line ≡ Some ts)) →
+      (ls : List Line) → list_any (λ line. p line.bytes) ls ≡ true → (m : ℕ) × ((each f ls).1 ≡ Some m)
+  results-some p makes [] h = absurd cc
+  results-some p makes (line ∷ ls) h = elim (or_cases (p line.bytes) (list_any (λ line. p line.bytes) ls) h) [
+    | inl e ↦ let q = makes line.bytes e in made-onto line (f line.bytes) (each f ls) q.0 q.1
+    | inr e ↦ let q = results-some p makes ls e in some-onto line (f line.bytes) (each f ls) q.0 q.1
+  ]
 
   pub made-each : ((line : List ℕ) → (ts : List (List ℕ)) × (f line ≡ Some ts)) → (ls : List Line) → All IsMade ls
   made-each makes [] = All-nil IsMade

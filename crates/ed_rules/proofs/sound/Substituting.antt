@@ -15,7 +15,7 @@ use Rattle.ed_syntax.specs.meaning.Ranges.{Span}
 use Rattle.ed_syntax.specs.meaning.States as editor
 use Rattle.ed_rules.specs.declared.state.State.{State}
 use Rattle.ed_rules.specs.Pieces.{with_zone, mark_lost}
-use Rattle.ed_rules.specs.Substituting.{mark_substituted, marks_substituted, current_split}
+use Rattle.ed_rules.specs.Substituting.{mark_substituted, marks_substituted, current_split, current_within}
 use Rattle.ed_rules.proofs.sound.LettersInLines.{line_with, line_with-replaced_before, line_with-replaced_after, length-replaced}
 use Rattle.ed_rules.proofs.sound.Finishing.{for_each_sure-by}
 use Rattle.ed_rules.proofs.sound.Lifting.{Holds-same}
@@ -174,9 +174,10 @@ module _ (splits : Bool) (s : State) (e : editor.State) (x : Span) (r : Ranges s
       (Holds-after_set (marks_substituted splits s).zone 1 4 (pos 0) m.numbers (updated m.numbers 1 (pos current)) (omega arith) (omega arith) m.holds (updated-other m.numbers 1 (pos current)) (omega (arith, ints))))
 
   -- the current line is one of them
-  pub exchanged-some : splits ≡ false → (current : ℕ) → x.first ≤ current → current ≤ x.last →
-      Replaced s (with_zone (after_guard (after_guard (after_forget (marks_substituted splits s).zone 1) 3 1 (pos 0)) 1 4 (pos 0)) (marks_substituted splits s))
+  exchanged-some : splits ≡ false → (current : ℕ) → x.first ≤ current → current ≤ x.last →
+      Replaced s (with_zone (current_within false (marks_substituted splits s).zone) (marks_substituted splits s))
       (parts.replaced x.first x.last new e.lines) current
+  unfolding current_within
   exchanged-some whole current low high =
       let m = passed in
       let z = size in
@@ -188,10 +189,50 @@ module _ (splits : Bool) (s : State) (e : editor.State) (x : Span) (r : Ranges s
       let m3 : m.numbers 3 ≡ pos x.first = m.low 3 (omega arith) ∙ r.spans.first_is in
       let m4 : m.numbers 4 ≡ pos x.last = m.low 4 (omega arith) ∙ r.spans.last_is in
       let w : Numbers = updated m.numbers 1 (pos current) in
-      HoldsBy-exchanged (after_guard (after_guard (after_forget t.zone 1) 3 1 (pos 0)) 1 4 (pos 0)) current (omega arith)
-      (Holds-still whole (after_guard (after_guard (after_forget t.zone 1) 3 1 (pos 0)) 1 4 (pos 0)) current
+      HoldsBy-exchanged (current_within false t.zone) current (omega arith)
+      (Holds-still whole (current_within false t.zone) current
       (Holds-after_guard _ 1 4 (pos 0) w (omega arith) (omega arith)
       (Holds-after_guard _ 3 1 (pos 0) w (omega arith) (omega arith) (Holds-after_forget t.zone 1 m.numbers w m.holds (updated-other m.numbers 1 (pos current))) (omega (arith, ints))) (omega (arith, ints))))
+
+  -- where lines may be split, it is one of those that are then in their place
+  exchanged-among : (current : ℕ) → x.first ≤ current → current + 1 ≤ x.first + length new →
+      Replaced s (with_zone (current_within true (marks_substituted splits s).zone) (marks_substituted splits s))
+      (parts.replaced x.first x.last new e.lines) current
+  unfolding current_within
+  exchanged-among current low high =
+      let m = passed in
+      let z = size in
+      let more = by.least in
+      let from = r.from in
+      let order = r.order in
+      let last = r.spans.last_in in
+      let t : State = marks_substituted splits s in
+      let count : ℕ = length (parts.replaced x.first x.last new e.lines) in
+      let m3 : m.numbers 3 ≡ pos x.first = m.low 3 (omega arith) ∙ r.spans.first_is in
+      let m2 : m.numbers 2 ≡ pos (length e.lines) = m.low 2 (omega arith) ∙ r.spans.stands.buffer.reads.last_is in
+      let v2 : Numbers = updated m.numbers 2 (pos count) in
+      let v1 : Numbers = updated v2 1 (pos current) in
+      let within : current ≤ count = omega arith in
+      let h2 : Holds (after_shift t.zone 2 (Some (pos 0)) None) v2 =
+      Holds-after_shift t.zone 2 (Some (pos 0)) None m.numbers v2 (omega arith) m.holds (updated-other m.numbers 2 (pos count)) tt (omega (arith, ints)) in
+      let h1 : Holds (after_guard (after_forget (after_shift t.zone 2 (Some (pos 0)) None) 1) 3 1 (pos 0)) v1 =
+      Holds-after_guard _ 3 1 (pos 0) v1 (omega arith) (omega arith) (Holds-after_forget _ 1 v2 v1 h2 (updated-other v2 1 (pos current))) (omega (arith, ints)) in
+      HoldsBy-exchanged (current_within true t.zone) current within
+      (Holds-after_guard _ 1 2 (pos 0) v1 (omega arith) (omega arith) h1 (omega (arith, ints)))
+
+  pub exchanged-within : (current : ℕ) → x.first ≤ current → current + 1 ≤ x.first + length new →
+      Replaced s (with_zone (current_within splits (marks_substituted splits s).zone) (marks_substituted splits s))
+      (parts.replaced x.first x.last new e.lines) current
+  exchanged-within current low high =
+      let from = r.from in
+      let order = r.order in
+      let G : Bool → Type 0 = λ (b : Bool).
+      Replaced s (with_zone (current_within b (marks_substituted splits s).zone) (marks_substituted splits s))
+      (parts.replaced x.first x.last new e.lines) current in
+      (elim splits as (λ b. splits ≡ b → G b) [
+        | true ↦ λ k. exchanged-among current low high
+        | false ↦ λ k. let same = by.same k in exchanged-some k current low (omega arith)
+      ]) refl
 
   -- where lines may be split, the current line is as far from the last one as the second address was
   pub exchanged-split : (current : ℕ) → current + 1 ≡ x.first + length new →

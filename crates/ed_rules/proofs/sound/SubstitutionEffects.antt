@@ -1,9 +1,10 @@
 -- What `s` does, side by side.
-use Rattle.std.proofs.Common.{◌≡◌, ◌<◌, ◌≤◌, inl, inr, All, ℕ, zero, suc, ◌+◌, ◌-◌, pos, Bool, true, false, cond, ◌&&◌, List, [], ◌∷◌, take, drop, length, length-drop, Option, Some, None, Result, Ok, Err, arith, refl, ◌∙◌, ap, sym, subst, nat_eq}
+use Rattle.std.proofs.Common.{◌≡◌, ◌<◌, ◌≤◌, inl, inr, All, ℕ, zero, suc, ◌+◌, ◌-◌, pos, Bool, true, false, cond, ◌&&◌, List, [], ◌∷◌, take, drop, get_or, length, length-drop, Option, Some, None, Result, Ok, Err, arith, refl, ◌∙◌, ap, sym, subst, nat_eq}
 use Rattle.std.specs.Prelude.{not, ok_or, slice_index_or}
 use Rattle.std.proofs.lemmas.Int.{ints}
 use Rattle.std.specs.List.{list_any, list_all}
-use Rattle.std.proofs.lemmas.List.{length-take-le}
+use Rattle.std.proofs.lemmas.List.{length-take-le, get_or-drop, get_or-take, take_all}
+use Rattle.std.proofs.lemmas.List.Folds.{list_any_at}
 use Rattle.std.proofs.lemmas.List.Elements.{All-nil, All-cons, All-take, All-drop}
 use Rattle.std.proofs.lemmas.Bool.{or_cases, or_right, and_parts}
 use Rattle.ed_base.specs.declared.fault.Fault.{Fault}
@@ -14,14 +15,14 @@ use Rattle.ed_base.specs.Parts as parts
 use Rattle.zones.specs.Zone.{Numbers}
 use Rattle.zones.specs.Known.{known}
 use Rattle.zones.proofs.Known.{known-true}
-use Rattle.zones.specs.Steps.{after_set, after_guard, after_forget}
+use Rattle.zones.specs.Steps.{after_set}
 use Rattle.ed_syntax.specs.declared.replacement.Part.{Part}
 use Rattle.ed_syntax.specs.declared.replacement.Part.TheVariants as part
 use Rattle.ed_syntax.specs.declared.replacement.Which.{Which}
 use Rattle.ed_syntax.specs.Commands.{Form}
 use Rattle.ed_syntax.specs.meaning.States as editor
 use Rattle.ed_syntax.specs.meaning.Ranges.{Span}
-use Rattle.ed_syntax.specs.meaning.Values.{◌>>◌, used_pattern, matches_line}
+use Rattle.ed_syntax.specs.meaning.Values.{◌>>◌, used_pattern, matches, matches_line}
 use Rattle.ed_syntax.specs.meaning.Verbs.{is_split}
 use Rattle.ed_syntax.specs.meaning.Effects as effects
 use Rattle.ed_syntax.specs.meaning.Effects.{Outcome, Effect, Makes}
@@ -35,11 +36,17 @@ use Rattle.ed_rules.specs.StandsFor.{ends_line, allows_replacement}
 use Rattle.ed_rules.specs.Order.{join}
 use Rattle.ed_rules.specs.Pieces.{with_zone, modified}
 use Rattle.ed_rules.specs.Addresses.{is_always, possible_patterns}
-use Rattle.ed_rules.specs.facts.Facts.{tells}
-use Rattle.ed_rules.proofs.facts.FactsTold.{tells-true}
+use Rattle.ed_rules.specs.Matched.{is_matched, AreMatched}
+use Rattle.ed_rules.specs.Texts.{is_member}
+use Rattle.ed_rules.specs.facts.Facts.{LineFactHolds, at, le, tells}
+use Rattle.ed_rules.specs.facts.FoundLines.{matches_it}
+use Rattle.ed_rules.proofs.facts.FactsTold.{any-gives, le-true, tells-true}
+use Rattle.ed_rules.proofs.facts.FoundLines.{witness-of}
+use Rattle.ed_rules.proofs.Texting.{member-matched}
+use Rattle.ed_rules.proofs.sound.Searching.{always-matched}
 use Rattle.ed_rules.proofs.sound.Following.{FollowedHold}
 use Rattle.ed_rules.proofs.Basics.{Agrees}
-use Rattle.ed_rules.specs.Substituting.{kind_of, has_usable, replacement_used, pattern_used, takes_first, is_known_line, matches_each, is_sure_to_match, marks_substituted, current_split, current_substituted, surely_substituted, partly_substituted, substituted_if, substituted}
+use Rattle.ed_rules.specs.Substituting.{kind_of, has_usable, replacement_used, pattern_used, takes_first, is_known_line, matches_each, is_sure_to_match, takes_all, is_match_among, is_matched_among, matches_some, is_sure_of_some, marks_substituted, current_split, current_substituted, current_within, surely_substituted, partly_substituted, substituted_if, substituted}
 use Rattle.ed_rules.proofs.Basics.{Agrees-bind, Agrees-needing, Agrees-map, Agrees-ok, bind-twice}
 use Rattle.ed_rules.proofs.Choosing.{has_choice-only, has_choice-all}
 use Rattle.ed_rules.proofs.sound.LettersInLines.{line_with, line_with-take_before, one_more, one_more-none}
@@ -48,14 +55,14 @@ use Rattle.ed_rules.proofs.sound.Spans.{Ranges, Spans-by, Ranges-by}
 use Rattle.ed_rules.proofs.sound.Weaker.{Stands-join, Stands-join_other}
 use Rattle.ed_rules.proofs.sound.Finishing.{Follows}
 use Rattle.ed_rules.proofs.sound.Effects.{altered-aside}
-use Rattle.ed_rules.proofs.sound.Results.{results-none, results-within, results-least, results-same, results-all, IsMade, made-each, made-some, made-one, always-makes, matching-makes}
-use Rattle.ed_rules.proofs.sound.Substituting.{Exchanges, exchanged-last, exchanged-some, exchanged-split}
+use Rattle.ed_rules.proofs.sound.Results.{results-none, results-within, results-least, results-same, results-all, results-some, IsMade, made-each, made-some, made-one, always-makes, matching-makes}
+use Rattle.ed_rules.proofs.sound.Substituting.{Exchanges, exchanged-last, exchanged-within, exchanged-split}
 
 -- the replacement
 
 -- what a command uses is of a kind that it may use
-abbrev UsesKind : (listed : Bool) → Replacements → List Part → Type 0
-UsesKind listed kinds parts = (has_usable listed kinds ≡ true) × (allows_replacement kinds (Some parts) ≡ true)
+abbrev UsesKind : Replacements → List Part → Type 0
+UsesKind kinds parts = allows_replacement kinds (Some parts) ≡ true
 
 kind-allows : (parts : List Part) → allows_replacement (kind_of parts) (Some parts) ≡ true
 kind-allows parts =
@@ -86,27 +93,19 @@ allows-plain kinds parts h e =
       | false ↦ λ k. refl
     ]) refl
 
--- in a list none splits
-usable-plain : (kinds : Replacements) → has_usable true kinds ≡ true → kinds.split ≡ false
-usable-plain kinds h =
-    (elim kinds.split as (λ b. not kinds.none && not b ≡ true → b ≡ false) [
-      | true ↦ λ k. let z : false ≡ true = (and_parts (not kinds.none) false k).1 in absurd cc
-      | false ↦ λ k. refl
-    ]) h
-
 remembered-kind : (listed : Bool) (kinds : Replacements) (r : Option (List Part)) → allows_replacement kinds r ≡ true → has_usable listed kinds ≡ true →
-    Agrees (UsesKind listed) (Ok kinds)
+    Agrees UsesKind (Ok kinds)
     (ok_or r fault.Replacement >> λ parts. elim (listed && list_any is_split parts) as (λ _. Result (List Part) Fault) [ true ↦ Err fault.Replacement | false ↦ Ok parts ])
 remembered-kind listed kinds None h k = absurd (not-true kinds.none (and_parts (not kinds.none) (not (listed && kinds.split)) k).0 h)
 remembered-kind listed kinds (Some parts) h k =
     (elim (listed && list_any is_split parts) as (λ b. listed && list_any is_split parts ≡ b →
-    Agrees (UsesKind listed) (Ok kinds) (elim b as (λ _. Result (List Part) Fault) [ true ↦ Err fault.Replacement | false ↦ Ok parts ])) [
+    Agrees UsesKind (Ok kinds) (elim b as (λ _. Result (List Part) Fault) [ true ↦ Err fault.Replacement | false ↦ Ok parts ])) [
       | true ↦ λ e.
           let q = and_parts listed (list_any is_split parts) e in
           let split : kinds.split ≡ true = allows-split kinds parts h (split-ends parts q.1) in
           let both : listed && kinds.split ≡ true = rw (q.0, split) refl in
           not-true (listed && kinds.split) (and_parts (not kinds.none) (not (listed && kinds.split)) k).1 both
-      | false ↦ λ e. (k, h)
+      | false ↦ λ e. h
     ]) refl
 
 -- the pattern
@@ -189,21 +188,20 @@ module _ (text : List ℕ) (replacement : List Part) (choice : Which) (s : State
         ]) refl
 
   -- a substitution in some of them
-  module _ (listed : Bool) (start : State) (begun : editor.State) (st : Begins start begun) (plain : s.replacements.split ≡ false) where
+  module _ (listed : Bool) (start : State) (begun : editor.State) (st : Begins start begun) where
     partly-follows : (n : ℕ) → new.1 ≡ Some n →
         Follows listed begun (partly_substituted listed start s) (Makes (effects.altered (parts.replaced x.first x.last new.0 e.lines) (x.first - 1 + n) e))
     unfolding partly_substituted
     partly-follows n is =
+        let splits : Bool = s.replacements.split in
         let lines : List Line = parts.replaced x.first x.last new.0 e.lines in
         let current : ℕ = x.first - 1 + n in
         let from = r.from in
-        let order = r.order in
-        let by = exchanges false (λ z. allows-plain s.replacements replacement kind plain) in
-        let size = by.same refl in
+        let by = exchanges splits (λ k. allows-plain s.replacements replacement kind k) in
         let within = results-within (made_of text replacement choice) (made-some text replacement choice) block n is in
-        let q = exchanged-some false s e x r new.0 by refl current (omega arith) (omega arith) in
-        altered-aside listed start s
-        (with_zone (after_guard (after_guard (after_forget (marks_substituted false s).zone 1) 3 1 (pos 0)) 1 4 (pos 0)) (marks_substituted false s)) begun e st r.spans.stands.remembered r.spans.stands.past q.aside lines current q.numbers q.buffer
+        let q = exchanged-within splits s e x r new.0 by current (omega arith) (omega arith) in
+        altered-aside listed start s (with_zone (current_within splits (marks_substituted splits s).zone) (marks_substituted splits s))
+        begun e st r.spans.stands.remembered r.spans.stands.past q.aside lines current q.numbers q.buffer
 
 -- what a rule makes of a state that an outcome leaves
 abbrev Leads : (listed : Bool) → editor.State → State → Outcome → Type 0
@@ -236,12 +234,33 @@ one-between ls (suc k) b from same inside =
     subst (λ (n : ℕ). parts.between (suc k) n ls ≡ slice_index_or ls (suc k - 1) (plain_line []) ∷ []) (sym same)
     (subst (λ (n : ℕ). drop n (take (suc k) ls) ≡ slice_index_or ls n (plain_line []) ∷ []) (sym q) (one-from ls k (plain_line []) (omega arith)))
 
+-- a line from a number to another that matches is among the lines between them
+between-matched : (text : List ℕ) (ls : List Line) (a b n : ℕ) → 1 ≤ a → a ≤ n → n ≤ b → b ≤ length ls → matches_line text ls n ≡ true →
+    is_matched (parts.between a b ls) text ≡ true
+between-matched text ls a b n from low high inside h =
+    let size : length (parts.between a b ls) ≡ b + 1 - a =
+    length-drop (a - 1) (take b ls) ∙ (let q = length-take-le b ls inside in omega arith) in
+    let there : get_or (parts.between a b ls) (n - a) (plain_line []) ≡ get_or ls (n - 1) (plain_line []) =
+    get_or-drop (a - 1) (take b ls) (n - a) (plain_line []) ∙ get_or-take b ls (a - 1 + (n - a)) (plain_line []) (omega arith)
+    ∙ ap (λ (i : ℕ). get_or ls i (plain_line [])) (omega arith) in
+    list_any_at (λ (line : Line). matches text line.bytes) (parts.between a b ls) (n - a) (plain_line []) (omega arith)
+    (ap (λ (line : Line). matches text line.bytes) there ∙ h)
+
+-- all lines are those from 1 to the last one
+all-between : (ls : List Line) (a b : ℕ) → 1 ≡ a → length ls ≡ b → parts.between a b ls ≡ ls
+all-between ls a b first last =
+    let P : ℕ → ℕ → Type 0 = λ (a b : ℕ). parts.between a b ls ≡ ls in
+    subst (λ (a : ℕ). P a b) first (subst (λ (b : ℕ). P 1 b) last (take_all (length ls) ls (omega arith)))
+
 -- pattern and replacement are there
 module _ (text : List ℕ) (replacement : List Part) (choice : Which) (form : Option Form) (start : State) (begun : editor.State) (st : Begins start begun) (x : Span) (s : State) (e : editor.State) (r : Ranges s e x)
     (whole : AreWhole e.lines) (possible : has_choice s.patterns (Some text) ≡ true) (kind : allows_replacement s.replacements (Some replacement) ≡ true)
-    (followed : FollowedHold s r.spans.numbers e.lines) where
+    (followed : FollowedHold s r.spans.numbers e.lines) (matched : AreMatched s.matches.has e.lines) where
   abbrev addressed_lines : List Line
   addressed_lines = parts.between x.first x.last e.lines
+
+  abbrev results : Results
+  results = each (made_of text replacement choice) addressed_lines
 
   -- the one line that is known to match
   known-makes : is_known_line s text ≡ true → takes_first choice ≡ true → All (IsMade (made_of text replacement choice)) addressed_lines
@@ -271,39 +290,108 @@ module _ (text : List ℕ) (replacement : List Part) (choice : Which) (form : Op
       ]
 
   sure-sound : (listed : Bool) → is_sure_to_match s choice ≡ true →
-      Agrees (Leads listed begun) (Ok (surely_substituted listed start s)) (made listed form x e (each (made_of text replacement choice) (parts.between x.first x.last e.lines)))
+      Agrees (Leads listed begun) (Ok (surely_substituted listed start s)) (made listed form x e results)
   sure-sound listed k =
       let q = and_parts (list_all (matches_each s) s.patterns) (takes_first choice) k in
       let each_one : matches_each s (Some text) ≡ true = has_choice-all (matches_each s) s.patterns (Some text) q.0 possible in
       let makes = each-makes each_one q.1 in
-      let new : Results = each (made_of text replacement choice) (parts.between x.first x.last e.lines) in
-      Agrees-ok (Leads listed begun) (surely_substituted listed start s) _ (made listed form x e new)
-      (outcome listed form x e new (length new.0) (last-made text replacement choice s e x r whole kind listed start begun st makes))
+      Agrees-ok (Leads listed begun) (surely_substituted listed start s) _ (made listed form x e results)
+      (outcome listed form x e results (length results.0) (last-made text replacement choice s e x r whole kind listed start begun st makes))
       (surely-follows text replacement choice s e x r whole kind listed start begun st makes)
 
-  made-sound : (listed : Bool) → has_usable listed s.replacements ≡ true →
-      Agrees (Leads listed begun) (substituted_if (is_sure_to_match s choice) listed start s) (made listed form x e (each (made_of text replacement choice) (parts.between x.first x.last e.lines)))
-  made-sound true usable =
-      (elim (is_sure_to_match s choice) as (λ b. is_sure_to_match s choice ≡ b → Agrees (Leads true begun) (substituted_if b true start s) (made true form x e (each (made_of text replacement choice) (parts.between x.first x.last e.lines)))) [
-        | true ↦ λ k. sure-sound true k
-        | false ↦ λ k.
-            partly-leads form start begun x s e (r.spans.numbers, r.spans.stands) (each (made_of text replacement choice) (parts.between x.first x.last e.lines))
-            (λ n is. partly-follows text replacement choice s e x r whole kind true start begun st (usable-plain s.replacements usable) n is)
-      ]) refl
-  made-sound false usable =
-      (elim (is_sure_to_match s choice) as (λ b. is_sure_to_match s choice ≡ b → Agrees (Leads false begun) (substituted_if b false start s) (made false form x e (each (made_of text replacement choice) (parts.between x.first x.last e.lines)))) [
-        | true ↦ λ k. sure-sound false k
-        | false ↦ λ k. tt
+  -- an addressed line that is known to match
+  among-matched : s.follows ≡ true → list_any (is_match_among s.zone text) s.facts.lines ≡ true → is_matched addressed_lines text ≡ true
+  among-matched follows k =
+      let v : Numbers = r.spans.numbers in
+      let holds = r.spans.stands.buffer.holds in
+      any-gives (is_match_among s.zone text) (LineFactHolds v e.lines) (is_matched addressed_lines text ≡ true) s.facts.lines
+      (followed follows).of_lines
+      (λ f t m.
+      let p = and_parts (matches_it text f) _ m in
+      let one = witness-of v e.lines text f t p.0 in
+      let w = and_parts (le s.zone (at 3) (at f.name) (pos 0)) (le s.zone (at f.name) (at 4) (pos 0)) p.1 in
+      let low = le-true s.zone v (at 3) (at f.name) (pos 0) w.0 (omega arith) one.named holds in
+      let high = le-true s.zone v (at f.name) (at 4) (pos 0) w.1 one.named (omega arith) holds in
+      let is = one.is in
+      let first = r.spans.first_is in
+      let last = r.spans.last_is in
+      between-matched text e.lines x.first x.last one.line r.from (omega (arith, ints)) (omega (arith, ints)) r.spans.last_in one.passes) k
+
+  -- all lines are addressed, and some line matches
+  all-matched : takes_all s.zone && is_member s.matches.has text ≡ true → is_matched addressed_lines text ≡ true
+  all-matched k =
+      let v : Numbers = r.spans.numbers in
+      let holds = r.spans.stands.buffer.holds in
+      let q = and_parts (takes_all s.zone) (is_member s.matches.has text) k in
+      let w = and_parts (known s.zone 3 0 (pos 1)) (known s.zone 2 4 (pos 0)) q.0 in
+      let low = known-true s.zone v 3 0 (pos 1) w.0 (omega arith) (omega arith) holds in
+      let high = known-true s.zone v 2 4 (pos 0) w.1 (omega arith) (omega arith) holds in
+      let first = r.spans.first_is in
+      let last = r.spans.last_is in
+      let zero_is = r.spans.stands.buffer.reads.zero_is in
+      let end_is = r.spans.stands.buffer.reads.last_is in
+      let from = r.from in
+      let inside = r.spans.last_in in
+      subst (λ (ls : List Line). is_matched ls text ≡ true)
+      (sym (all-between e.lines x.first x.last (omega (arith, ints)) (omega (arith, ints))))
+      (member-matched s.matches.has text e.lines q.1 matched)
+
+  some-matched : s.follows ≡ true → matches_some s (Some text) ≡ true → is_matched addressed_lines text ≡ true
+  some-matched follows k =
+      elim (or_cases (is_matched_among s text) (is_always (Some text)) k) [
+        | inl known ↦ elim (or_cases (list_any (is_match_among s.zone text) s.facts.lines) _ known) [
+          | inl among ↦ among-matched follows among
+          | inr all ↦ all-matched all
+        ]
+        | inr always ↦
+            let size = block-size text replacement choice s e x r whole kind in
+            let from = r.from in
+            let order = r.order in
+            always-matched text addressed_lines always (omega arith)
+      ]
+
+  some-sound : (listed : Bool) → is_sure_of_some s choice ≡ true →
+      Agrees (Leads listed begun) (Ok (partly_substituted listed start s)) (made listed form x e results)
+  some-sound listed k =
+      let q = and_parts s.follows _ k in
+      let w = and_parts (list_all (matches_some s) s.patterns) (takes_first choice) q.1 in
+      let one : matches_some s (Some text) ≡ true = has_choice-all (matches_some s) s.patterns (Some text) w.0 possible in
+      let m =
+      results-some (made_of text replacement choice) (matches text) (λ line h. matching-makes text replacement choice line h w.1)
+      addressed_lines (some-matched q.0 one) in
+      Agrees-ok (Leads listed begun) (partly_substituted listed start s) _ (made listed form x e results)
+      (outcome listed form x e results m.0 m.1) (partly-follows text replacement choice s e x r whole kind listed start begun st m.0 m.1)
+
+  -- nothing is sure to match
+  none-sound : (listed : Bool) → Agrees (Leads listed begun) (substituted_if false false listed start s) (made listed form x e results)
+  none-sound true =
+      partly-leads form start begun x s e (r.spans.numbers, r.spans.stands) results
+      (λ n is. partly-follows text replacement choice s e x r whole kind true start begun st n is)
+  none-sound false = tt
+
+  made-sound : (listed : Bool) →
+      Agrees (Leads listed begun) (substituted_if (is_sure_to_match s choice) (is_sure_of_some s choice) listed start s)
+      (made listed form x e results)
+  made-sound listed =
+      let G : Bool → Bool → Type 0 = λ (all some : Bool).
+      Agrees (Leads listed begun) (substituted_if all some listed start s) (made listed form x e results) in
+      (elim (is_sure_to_match s choice) as (λ b. is_sure_to_match s choice ≡ b → G b (is_sure_of_some s choice)) [
+        | true ↦ λ k. sure-sound listed k
+        | false ↦ λ _.
+            (elim (is_sure_of_some s choice) as (λ b. is_sure_of_some s choice ≡ b → G false b) [
+              | true ↦ λ k. some-sound listed k
+              | false ↦ λ _. none-sound listed
+            ]) refl
       ]) refl
 
 -- the states with what is used
 
--- the addressed lines, where what is said of single lines is true of the same numbers
+-- the addressed lines, where what is said of single lines is true of the same numbers, and what is said of matches too
 abbrev pub RangesKnown : State → editor.State → Span → Type 0
-RangesKnown s e x = (r : Ranges s e x) × FollowedHold s r.spans.numbers e.lines
+RangesKnown s e x = (r : Ranges s e x) × (FollowedHold s r.spans.numbers e.lines × AreMatched s.matches.has e.lines)
 
-abbrev Uses : (listed : Bool) → editor.State → Span → State → List Part → Type 0
-Uses listed e x t parts = RangesKnown t (record e { replacement = Some parts }) x × (has_usable listed t.replacements ≡ true)
+abbrev Uses : editor.State → Span → State → List Part → Type 0
+Uses e x t parts = RangesKnown t (record e { replacement = Some parts }) x
 
 Ranges-replacement : (s : State) (e : editor.State) (x : Span) (kinds : Replacements) (parts : List Part) → Ranges s e x → allows_replacement kinds (Some parts) ≡ true →
     Ranges (record s { replacements = kinds }) (record e { replacement = Some parts }) x
@@ -328,26 +416,26 @@ Agrees-made R S (Ok a) (Ok b) g h k = k a b h
 Agrees-made R S (Ok a) (Err f) g h k = absurd h
 
 replacement-sound : (listed : Bool) (own : Option (List Part)) (s : State) (e : editor.State) (x : Span) → RangesKnown s e x →
-    Agrees (Uses listed e x) (replacement_used listed own s) (used_replacement listed own e)
+    Agrees (Uses e x) (replacement_used listed own s) (used_replacement listed own e)
 unfolding Ranges-replacement Ranges-by Spans-by
 replacement-sound listed None s e x r =
     let t : State = record s { replacements = s.replacements } in
-    Agrees-needing (Uses listed e x) (has_usable listed s.replacements) fault.Replacement t (used_replacement listed None e) (λ k.
-    Agrees-as (UsesKind listed) (Uses listed e x) s.replacements t (used_replacement listed None e) (remembered-kind listed s.replacements e.replacement r.0.spans.stands.remembered.1 k)
-    (λ parts q. ((Ranges-replacement s e x s.replacements parts r.0 q.1, r.1), q.0)))
+    Agrees-needing (Uses e x) (has_usable listed s.replacements) fault.Replacement t (used_replacement listed None e) (λ k.
+    Agrees-as UsesKind (Uses e x) s.replacements t (used_replacement listed None e) (remembered-kind listed s.replacements e.replacement r.0.spans.stands.remembered.1 k)
+    (λ parts q. (Ranges-replacement s e x s.replacements parts r.0 q, r.1)))
 replacement-sound listed (Some parts) s e x r =
     let t : State = record s { replacements = kind_of parts } in
-    Agrees-needing (Uses listed e x) (has_usable listed (kind_of parts)) fault.Replacement t (used_replacement listed (Some parts) e) (λ k. ((Ranges-replacement s e x (kind_of parts) parts r.0 (kind-allows parts), r.1), k))
+    Agrees-needing (Uses e x) (has_usable listed (kind_of parts)) fault.Replacement t (used_replacement listed (Some parts) e) (λ k. (Ranges-replacement s e x (kind_of parts) parts r.0 (kind-allows parts), r.1))
 
-abbrev Looks : (listed : Bool) → editor.State → Span → State → List ℕ → Type 0
-Looks listed e x t text = RangesKnown t (record e { pattern = Some text }) x × (has_usable listed t.replacements ≡ true)
+abbrev Looks : editor.State → Span → State → List ℕ → Type 0
+Looks e x t text = RangesKnown t (record e { pattern = Some text }) x
 
-pattern-sound : (listed : Bool) (own : Option (List ℕ)) (s : State) (e : editor.State) (x : Span) → RangesKnown s e x → has_usable listed s.replacements ≡ true →
-    Agrees (Looks listed e x) (pattern_used own s) (used_pattern own e)
+pattern-sound : (own : Option (List ℕ)) (s : State) (e : editor.State) (x : Span) → RangesKnown s e x →
+    Agrees (Looks e x) (pattern_used own s) (used_pattern own e)
 unfolding Ranges-pattern Ranges-by Spans-by
-pattern-sound listed own s e x r usable =
-    Agrees-made IsPossible (Looks listed e x) (possible_patterns own s) (used_pattern own e) (λ patterns. record s { patterns = patterns }) (patterns-sound own s e r.0.spans.stands.remembered.0)
-    (λ patterns text k. ((Ranges-pattern s e x patterns text r.0 k, r.1), usable))
+pattern-sound own s e x r =
+    Agrees-made IsPossible (Looks e x) (possible_patterns own s) (used_pattern own e) (λ patterns. record s { patterns = patterns }) (patterns-sound own s e r.0.spans.stands.remembered.0)
+    (λ patterns text k. (Ranges-pattern s e x patterns text r.0 k, r.1))
 
 -- the replacement has no say in which pattern is used
 used-same : (own : Option (List ℕ)) (e : editor.State) (parts : List Part) → used_pattern own (record e { replacement = Some parts }) ≡ used_pattern own e
@@ -356,21 +444,26 @@ used-same (Some text) e parts = refl
 
 -- `s`
 substitute-leads : (listed : Bool) (pattern : Option (List ℕ)) (replacement : Option (List Part)) (choice : Which) (form : Option Form) (start : State) (begun : editor.State) → Begins start begun → (s : State) (e : editor.State) (x : Span) →
-    RangesKnown s e x → AreWhole e.lines → Agrees (Leads listed begun) (replacement_used listed replacement s >> λ t. pattern_used pattern t >> λ u. substituted_if (is_sure_to_match u choice) listed start u) (substitute listed pattern replacement choice form x e)
+    RangesKnown s e x → AreWhole e.lines →
+    Agrees (Leads listed begun)
+    (replacement_used listed replacement s >> λ t. pattern_used pattern t >> λ u.
+    substituted_if (is_sure_to_match u choice) (is_sure_of_some u choice) listed start u)
+    (substitute listed pattern replacement choice form x e)
 substitute-leads listed pattern replacement choice form start begun st s e x r whole =
-    Agrees-bind (Uses listed e x) (Leads listed begun) (replacement_used listed replacement s) (used_replacement listed replacement e) _ _ (replacement-sound listed replacement s e x r)
-    (λ t parts k. Agrees-bind (Looks listed (record e { replacement = Some parts }) x) (Leads listed begun) (pattern_used pattern t) (used_pattern pattern e) _ _
-    (subst (λ (y : Result (List ℕ) Fault). Agrees (Looks listed (record e { replacement = Some parts }) x) (pattern_used pattern t) y) (used-same pattern e parts)
-    (pattern-sound listed pattern t (record e { replacement = Some parts }) x k.0 k.1))
+    Agrees-bind (Uses e x) (Leads listed begun) (replacement_used listed replacement s) (used_replacement listed replacement e) _ _ (replacement-sound listed replacement s e x r)
+    (λ t parts k. Agrees-bind (Looks (record e { replacement = Some parts }) x) (Leads listed begun) (pattern_used pattern t) (used_pattern pattern e) _ _
+    (subst (λ (y : Result (List ℕ) Fault). Agrees (Looks (record e { replacement = Some parts }) x) (pattern_used pattern t) y) (used-same pattern e parts)
+    (pattern-sound pattern t (record e { replacement = Some parts }) x k))
     (λ u text q.
-    made-sound text parts choice form start begun st x u (record e { pattern = Some text; replacement = Some parts }) q.0.0 whole q.0.0.spans.stands.remembered.0 q.0.0.spans.stands.remembered.1 q.0.1
-    listed q.1))
+    made-sound text parts choice form start begun st x u (record e { pattern = Some text; replacement = Some parts }) q.0 whole q.0.spans.stands.remembered.0 q.0.spans.stands.remembered.1
+    (q.1).0 (q.1).1 listed))
 
 pub substitute-follows : (listed : Bool) (pattern : Option (List ℕ)) (replacement : Option (List Part)) (choice : Which) (form : Option Form) (start : State) (begun : editor.State) → Begins start begun → (s : State) (e : editor.State) (x : Span) →
     RangesKnown s e x → AreWhole e.lines → Agrees (Follows listed begun) (substituted listed pattern replacement choice start s) (making (substitute listed pattern replacement choice form x e))
 substitute-follows listed pattern replacement choice form start begun st s e x r whole =
     Agrees-map (Leads listed begun) (Follows listed begun) (substituted listed pattern replacement choice start s) (substitute listed pattern replacement choice form x e) (λ o. Makes o)
     (subst (λ (y : Result State Fault). Agrees (Leads listed begun) y (substitute listed pattern replacement choice form x e))
-    (sym (bind-twice (replacement_used listed replacement s) (pattern_used pattern) (λ t. substituted_if (is_sure_to_match t choice) listed start t)))
+    (sym (bind-twice (replacement_used listed replacement s) (pattern_used pattern)
+    (λ t. substituted_if (is_sure_to_match t choice) (is_sure_of_some t choice) listed start t)))
     (substitute-leads listed pattern replacement choice form start begun st s e x r whole))
     (λ a b h. h)

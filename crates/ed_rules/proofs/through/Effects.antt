@@ -41,7 +41,7 @@ use Rattle.ed_rules.proofs.formed.Speaking.{Speaks-shift}
 use Rattle.ed_rules.proofs.formed.Naming.{is_spoken, letter-spoken}
 use Rattle.ed_rules.proofs.formed.SpeakingPieces.{Inner, IsLow, Inner-guard, Inner-set, Inner-shift, Inner-forget, Inner-inserted}
 use Rattle.ed_rules.proofs.formed.SpeakingPieces.{Inner-current_inserted, Inner-left_over, Inner-current_replaced, Inner-moved_up}
-use Rattle.ed_rules.proofs.formed.SpeakingPieces.{Inner-moved_down, Inner-current_substituted, Inner-current_read}
+use Rattle.ed_rules.proofs.formed.SpeakingPieces.{Inner-moved_down, Inner-current_substituted, Inner-current_within, Inner-current_read}
 use Rattle.ed_rules.proofs.through.Needs.{needed, IfOk-needing}
 use Rattle.ed_rules.proofs.through.Addresses.{KeptAt, possible-through}
 
@@ -250,16 +250,16 @@ module _ (P : State → Type 0) (Pattern Path : List ℕ → Type 0) (Loads : Ty
   partly-through : (listed : Bool) (s : State) → P s → P (partly_substituted listed start s)
   unfolding partly_substituted
   partly-through listed s q =
-      let t : State = marks_substituted false s in
+      let splits : Bool = s.replacements.split in
+      let t : State = marks_substituted splits s in
       keeps.changes listed _
-      (anew t _
-      (λ i. Inner-guard t.marks _ 1 4 (pos 0) refl refl (Inner-guard t.marks _ 3 1 (pos 0) refl refl (Inner-forget t.marks t.zone 1 i)))
-      (substituted_marks-through false s q))
+      (anew t _ (λ i. Inner-current_within splits t.marks t.zone i) (substituted_marks-through splits s q))
 
-  substituted_if-through : (sure listed : Bool) (s : State) → P s → IfOk (substituted_if sure listed start s) P
-  substituted_if-through true listed s q = surely-through listed s q
-  substituted_if-through false true s q = keeps.joins s (partly_substituted true start s) q (partly-through true s q)
-  substituted_if-through false false s q = tt
+  substituted_if-through : (sure some listed : Bool) (s : State) → P s → IfOk (substituted_if sure some listed start s) P
+  substituted_if-through true some listed s q = surely-through listed s q
+  substituted_if-through false true listed s q = partly-through listed s q
+  substituted_if-through false false true s q = keeps.joins s (partly_substituted true start s) q (partly-through true s q)
+  substituted_if-through false false false s q = tt
 
   pattern-through : (pattern : Option (List ℕ)) (s : State) → IfSome pattern Pattern → P s → IfOk (pattern_used pattern s) P
   pattern-through pattern s g q =
@@ -273,7 +273,7 @@ module _ (P : State → Type 0) (Pattern Path : List ℕ → Type 0) (Loads : Ty
       (IfOk-bind P P (replacement_used listed parts s) (pattern_used pattern)
       (needed P _ _ _ (keeps.kinds s (possible_kinds parts s.replacements) (λ k. kinds-possible parts s.replacements k) q))
       (λ t u. pattern-through pattern t g u))
-      (λ t u. substituted_if-through _ listed t u)
+      (λ t u. substituted_if-through _ _ listed t u)
 
   -- FILES
 

@@ -17,7 +17,7 @@ pub(crate) fn be_some_line(zone: &mut Zone, x: Name)
 }
 
 /// Whether a fact says that its line matches the pattern.
-fn matches_it(pattern: &[u8], fact: &KnownLine) -> bool
+pub(crate) fn matches_it(pattern: &[u8], fact: &KnownLine) -> bool
     ensures value { result ≡ matches_it pattern.now fact.now }
 {
     fact.pattern.as_slice() == pattern && fact.matches
