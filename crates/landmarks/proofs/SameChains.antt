@@ -1,5 +1,5 @@
 -- Landmarks that are the same.
-use Rattle.std.proofs.Common.{◌≡◌, ℕ, Bool, ◌&&◌, nat_eq, List, [], sym, ap, ◌∙◌}
+use Rattle.std.proofs.Common.{◌≡◌, ℕ, Bool, ◌&&◌, nat_eq, List, [], sym, ap, subst, ◌∙◌}
 use Rattle.std.specs.Bool.{Decides}
 use Rattle.std.specs.Cmp.Lexicographic.{pointwise, bytes_decides}
 use Rattle.std.proofs.lemmas.Bool.{and_from, and_parts}
@@ -7,6 +7,7 @@ use Rattle.std.proofs.lemmas.Slice.Eq.{slice_eq-Decides}
 use Rattle.landmarks.specs.declared.landmark.Landmark.{Landmark}
 use Rattle.landmarks.specs.declared.which.Which.{Which}
 use Rattle.landmarks.specs.declared.which.Which.TheVariants.{First, Only, Numbered}
+use Rattle.landmarks.specs.Spelled.{SpellsChain}
 use Rattle.landmarks.proofs.Chains.{landmark-same}
 
 pub sets_decide : (one other : List (List ℕ)) (r : Bool) → r ≡ pointwise (pointwise nat_eq) one other → Decides r (one ≡ other)
@@ -53,3 +54,8 @@ only_decides p q r is = (λ h. ap (λ (x : List ℕ). Only x) ((bytes_decides p 
 
 pub numbered_decides : (m n : ℕ) (r : Bool) → Decides r (m ≡ n) → Decides r (Numbered m ≡ Numbered n)
 numbered_decides m n r d = (λ h. ap (λ (x : ℕ). Numbered x) (d.0 h), λ same. d.1 (ap number_of same))
+
+-- what a text spells an equal text spells
+pub spells_same : (text copy : List ℕ) (chain copied : List Landmark) → copy ≡ text → copied ≡ chain → SpellsChain text chain → SpellsChain copy copied
+spells_same text copy chain copied is are spells =
+    subst (λ (t : List ℕ). SpellsChain t copied) (sym is) (subst (λ (c : List Landmark). SpellsChain text c) (sym are) spells)

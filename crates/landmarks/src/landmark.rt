@@ -1,7 +1,10 @@
 //! A landmark: a line that a start condition names.
 
+ghost use Rattle.std.specs.Prelude.{◌≡◌, IfOk};
+
 use crate::Which;
 use ed_base::Texts;
+use std::alloc::AllocError;
 
 /// A line of a file, by what is said of it and of the lines around it. The landmark before it is the one that stands before it in a chain;
 /// for the first one take line 0.
@@ -18,4 +21,20 @@ pub struct Landmark {
     pub also: Texts,
     /// It matches none of these.
     pub lacks: Texts,
+}
+
+impl Landmark {
+    /// An equal landmark.
+    pub fn try_copy(&self) -> Result<Self, AllocError>
+        ensures value { IfOk result (λ copy. copy ≡ self.now) }
+    {
+        Ok(Landmark {
+            none: self.none.try_copy()?,
+            which: self.which.try_copy()?,
+            gap: self.gap,
+            tail: self.tail,
+            also: self.also.try_copy()?,
+            lacks: self.lacks.try_copy()?,
+        })
+    }
 }

@@ -1,14 +1,25 @@
 //! A chain of landmarks with the text that spells it.
 
-ghost use Rattle.std.specs.Prelude.{◌≡◌, ◌≢◌, MatchResult, IfErr};
+ghost use Rattle.std.specs.Prelude.{◌≡◌, ◌≢◌, MatchResult, IfOk, IfErr};
 ghost use Rattle.landmarks.specs.declared.chain_fault.ChainFault.{ChainFault};
 ghost use Rattle.landmarks.specs.Spelled.{SpellsChain, NoChain};
 ghost use Rattle.landmarks.specs.ChainFaults.{IsFaultIn};
 
 use crate::{ChainFault, Landmark, read_chain};
 use ed_base::Bytes;
-use std::alloc::Global;
+use std::alloc::{AllocError, Global};
 use std::marker::Model;
+
+/// Equal landmarks.
+fn copies(alloc: Global, landmarks: &[Landmark]) -> Result<Vec<Landmark>, AllocError>
+    ensures value { IfOk result (λ copies. copies.items ≡ landmarks.now) }
+{
+    let mut copies = Vec::with_capacity(alloc, landmarks.len())?;
+    for landmark in landmarks {
+        copies.push(landmark.try_copy()?)?;
+    }
+    Ok(copies)
+}
 
 /// A chain of landmarks as somebody stated it: its text, and the landmarks that the text spells.
 #[derive(Debug, Drop)]
@@ -51,5 +62,15 @@ impl LandmarkChain {
         ensures value { result.now ≡ self.now.landmarks }
     {
         self.landmarks.as_slice()
+    }
+
+    /// An equal chain, made by the same allocators.
+    #[tactic(auto, using(crate::proofs::SameChains::spells_same))]
+    pub fn try_copy(&self) -> Result<Self, AllocError>
+        ensures value { IfOk result (λ copy. copy ≡ self.now) }
+    {
+        let landmarks = copies(*self.landmarks.allocator(), self.landmarks.as_slice())?;
+        let text = self.text.try_copy()?;
+        Ok(Self { text, landmarks })
     }
 }

@@ -6,6 +6,7 @@ mod chain_fault;
 mod key_text;
 mod landmark;
 mod landmark_chain;
+mod landmark_chains;
 mod laws;
 mod looking;
 mod misplaced;
@@ -23,6 +24,7 @@ pub use chain::read_chain;
 pub use chain_fault::{ChainFault, ChainWrong, Never};
 pub use landmark::Landmark;
 pub use landmark_chain::LandmarkChain;
+pub use landmark_chains::LandmarkChains;
 pub use laws::{
     chains_are_spelled_once, landmarks_are_where_they_are_said, landmarks_have_one_place,
     spelled_chains_are_written,

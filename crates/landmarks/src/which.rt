@@ -1,6 +1,9 @@
 //! Which line a landmark is.
 
+ghost use Rattle.std.specs.Prelude.{◌≡◌, IfOk};
+
 use ed_base::Bytes;
+use std::alloc::AllocError;
 
 /// The line that is looked for. A pattern is the text of a basic regular expression (XBD 9.3), without delimiters.
 #[derive(Debug, PartialEq, Eq, Drop)]
@@ -11,4 +14,17 @@ pub enum Which {
     Only(Bytes),
     /// The line of this number, from 1 to 999999999.
     Numbered(u32),
+}
+
+impl Which {
+    /// The same line.
+    pub fn try_copy(&self) -> Result<Self, AllocError>
+        ensures value { IfOk result (λ copy. copy ≡ self.now) }
+    {
+        match self {
+            Which::First(pattern) => Ok(Which::First(pattern.try_copy()?)),
+            Which::Only(pattern) => Ok(Which::Only(pattern.try_copy()?)),
+            Which::Numbered(number) => Ok(Which::Numbered(*number)),
+        }
+    }
 }
