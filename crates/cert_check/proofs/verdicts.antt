@@ -2,6 +2,8 @@
 pub mod Checks
 pub mod Quitting
 pub mod Flags
+pub mod FormedFacts
+pub mod Forming
 pub mod Running
 pub mod Turning
 pub mod Stepping

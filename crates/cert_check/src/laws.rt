@@ -1,8 +1,11 @@
 //! Laws about certificates: contracts of functions that do nothing.
 
-ghost use Rattle.std.specs.List.{list_all};
-ghost use Rattle.std.specs.Prelude.{◌≡◌, ℕ, Bool, List, length, IsTrue, ◌↔◌};
+ghost use Rattle.std.specs.List.{filter, list_all};
+ghost use Rattle.std.specs.Prelude.{◌≡◌, ℕ, Bool, List, length, All, Contains, IsTrue, ◌↔◌};
+ghost use Rattle.zones.specs.Zone.{Numbers};
+ghost use Rattle.ed_base.specs.Buffer.{Line};
 ghost use Rattle.ed_syntax.specs.Commands as ed;
+ghost use Rattle.ed_syntax.specs.meaning.States as editor;
 ghost use Rattle.ed_syntax.specs.meaning.Verbs.{is_step};
 ghost use Rattle.ed_rules.specs.declared.state.State.{State};
 ghost use Rattle.ed_rules.specs.Order.{Covers};
@@ -11,10 +14,12 @@ ghost use Rattle.cert_check.specs.declared.certificate.Version.TheVariants as ve
 ghost use Rattle.cert_check.specs.declared.checker.verdict.Verdict.TheVariants.{Accepted};
 ghost use Rattle.cert_check.specs.Certificates as plain;
 ghost use Rattle.cert_check.specs.checker.Covering.{covers};
+ghost use Rattle.cert_check.specs.checker.InForm.{in_form, state_in_form, HaveBytes};
 ghost use Rattle.cert_check.specs.checker.Valid.{judged};
-ghost use Rattle.ed_rules.specs.facts.Facts.{Facts};
+ghost use Rattle.ed_rules.specs.StandsFor.{StandsFor};
+ghost use Rattle.ed_rules.specs.facts.Facts.{LineFact, Stretch, Facts, FactsHold};
 ghost use Rattle.cert_check.specs.text.Text.{lines_text};
-ghost use Rattle.cert_check.specs.text.FactsText.{FactsAreFormed, facts_lines, old_facts_lines};
+ghost use Rattle.cert_check.specs.text.FactsText.{FactIsFormed, StretchIsFormed, FactsAreFormed, facts_lines, old_facts_lines};
 ghost use Rattle.cert_check.specs.text.HasText.{IsText};
 ghost use Rattle.cert_check.specs.text.Faults.{IsVersionFault, IsLineFault, IsSizeFault};
 ghost use Rattle.cert_check.specs.checker.MarkedStart.{MarkedStartsSuffice, MarkedStartsStand};
@@ -129,4 +134,30 @@ pub fn facts_have_one_text()
         lines_text (facts_lines one) ≡ lines_text (facts_lines other) → one ≡ other }
     ensures old { (marks letters : List Bool) (one other : Facts) → FactsAreFormed marks one → FactsAreFormed letters other →
         lines_text (old_facts_lines one) ≡ lines_text (old_facts_lines other) → one ≡ other }
+{}
+
+/// Facts in form can be written beside the letters, if their patterns are bytes. What can be written is in form already, so nothing is
+/// changed by putting it in form again.
+pub fn facts_in_form_can_be_written()
+    ensures formed { (marks : List Bool) (facts : Facts) → HaveBytes facts → FactsAreFormed marks (in_form marks facts) }
+    ensures already { (marks : List Bool) (facts : Facts) → FactsAreFormed marks facts → in_form marks facts ≡ facts }
+    ensures once { (marks : List Bool) (facts : Facts) → in_form marks (in_form marks facts) ≡ in_form marks facts }
+{}
+
+/// Some of the facts that can be written beside some letters can be written beside others too, where those allow each of them: so it is with
+/// what a join leaves.
+pub fn some_of_formed_facts_are_formed()
+    ensures some { (marks letters : List Bool) (facts : Facts) (keep : LineFact → Bool) (stay : Stretch → Bool) → FactsAreFormed marks facts →
+        All (FactIsFormed letters) (filter keep facts.lines) → All (StretchIsFormed letters) (filter stay facts.clear) →
+        FactsAreFormed letters (record { lines = filter keep facts.lines; clear = filter stay facts.clear }) }
+{}
+
+/// Facts in form are among those that were given, and they hold where those do. So a state whose facts are put in form stands for each
+/// editor that it stood for.
+pub fn facts_in_form_hold()
+    ensures lines { (marks : List Bool) (facts : Facts) → All (Contains facts.lines) (in_form marks facts).lines }
+    ensures clear { (marks : List Bool) (facts : Facts) → All (Contains facts.clear) (in_form marks facts).clear }
+    ensures hold { (marks : List Bool) (facts : Facts) (number : Numbers) (lines : List Line) → FactsHold facts number lines →
+        FactsHold (in_form marks facts) number lines }
+    ensures state { (s : State) (e : editor.State) → StandsFor s e → StandsFor (state_in_form s) e }
 {}

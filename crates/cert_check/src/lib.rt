@@ -3,16 +3,19 @@
 
 mod certificate;
 mod checker;
+mod in_form;
 mod laws;
 mod sight;
 mod text;
 
 pub use certificate::{Certificate, Looped, Note, Version};
 pub use checker::check;
+pub use checker::starting::{know_chains, landmarks_in, letters_left};
 pub use checker::verdict::{Place, Verdict};
 pub use laws::{
     accepted_scripts_cannot_fail, checked_globals_go_well, covering_is_decided,
-    facts_have_one_text, marked_starts_stand, marked_starts_suffice, readings_are_told_apart,
+    facts_have_one_text, facts_in_form_can_be_written, facts_in_form_hold, marked_starts_stand,
+    marked_starts_suffice, readings_are_told_apart, some_of_formed_facts_are_formed,
     starts_are_sound, texts_are_unambiguous, version_one_is_as_before,
 };
 pub use sight::Sight;

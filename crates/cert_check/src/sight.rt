@@ -5,6 +5,7 @@ ghost use Rattle.ed_syntax.specs.PublicScript.{script_value};
 ghost use Rattle.cert_check.specs.checker.Valid.{sight_of, told};
 
 use crate::certificate::Version;
+use crate::in_form::put_in_form;
 use ed_rules::{State, Texts, Watch};
 use ed_syntax::Script;
 use std::alloc::AllocError;
@@ -37,7 +38,9 @@ impl Sight {
     }
 
     /// Leaves in a rule's state only what the version tells: in versions 1 and 2 what is known of single lines is forgotten and they
-    /// aren't followed, and in version 1 what lines match is forgotten too. It takes no memory.
+    /// aren't followed, and in version 1 what lines match is forgotten too. In version 3 what is known of single lines is put in form, so
+    /// that it has a text: only facts that can be written beside the sure letters are left, in the order of the text, and one for each name
+    /// and pattern; those of an earlier buffer too. It takes no memory.
     pub fn tell(&self, state: &mut State)
         ensures value { state.new ≡ told self.now state.old }
     {
@@ -47,7 +50,7 @@ impl Sight {
                 state.forget_matches();
             }
             Version::Two => state.forget_facts(),
-            Version::Three => {}
+            Version::Three => put_in_form(state),
         }
     }
 }

@@ -1,12 +1,12 @@
 -- The start with landmarks stands for each file in which they are, with their letters on its lines.
-use Rattle.std.proofs.Common.{◌≡◌, ◌<◌, ℕ, pos, Bool, true, List, map, length, Option, All, IsFalse, refl, sym, ap, ◌∙◌}
+use Rattle.std.proofs.Common.{◌≡◌, ◌<◌, ℕ, pos, Bool, true, List, map, length, Option, All, sym, ap, ◌∙◌}
 use Rattle.zones.specs.Name.{mark}
 use Rattle.zones.specs.Zone.{Bounds, Numbers, Holds}
 use Rattle.ed_base.specs.Buffer.{Line, plain_line, texts}
 use Rattle.ed_base.specs.Lines.{lines_of}
 use Rattle.std.proofs.lemmas.List.{length-map}
 use Rattle.ed_syntax.specs.Commands.{Script}
-use Rattle.ed_syntax.specs.meaning.Erasure.{Marks, letters_of, AreApart, steps_name}
+use Rattle.ed_syntax.specs.meaning.Erasure.{Marks, AreApart}
 use Rattle.ed_syntax.specs.meaning.States as editor
 use Rattle.ed_rules.specs.Choices.{Choice}
 use Rattle.ed_rules.specs.Marks.{no_marks}
@@ -19,10 +19,10 @@ use Rattle.ed_rules.specs.facts.FoundHolds.{KnownHolds}
 use Rattle.landmarks.specs.declared.landmark.Landmark.{Landmark}
 use Rattle.landmarks.specs.Starting.{started}
 use Rattle.landmarks.specs.Starts.{AreEachAt, AreNumbered, marks_at, numbers_at, AreMarked}
-use Rattle.cert_check.specs.checker.Beginning.{count_of, letters_for, letters_of_chains, has_letters, with_sure, with_landmarks}
+use Rattle.cert_check.specs.checker.Beginning.{count_of, letters_of_chains, has_letters, with_sure, with_landmarks}
 use Rattle.cert_check.specs.checker.MarkedStart.{opened_with, NumberedBy, MarkedStartsStand}
-use Rattle.cert_check.specs.checker.Opening.{opened, Match, StartIsSound}
-use Rattle.cert_check.proofs.verdicts.Lettering.{IsFree, are-free, are-letters, are-apart, sure-is-one, count-places}
+use Rattle.cert_check.specs.checker.Opening.{Match, StartIsSound}
+use Rattle.cert_check.proofs.verdicts.Lettering.{are-free, are-letters, are-apart, sure-is-one, count-places}
 use Rattle.cert_check.proofs.verdicts.MarkedOpening.{texts-plain}
 use Rattle.cert_check.proofs.verdicts.Opening.{start-holds}
 use Rattle.std.proofs.lemmas.Bool.{eqb-true}

@@ -1,20 +1,17 @@
 -- The letters that landmarks take: none that the script names, none above `z`, and none twice.
-use Rattle.std.proofs.Common.{◌≡◌, ◌≢◌, ◌⊎◌, inl, inr, ◌<◌, ◌≤◌, ℕ, zero, suc, ◌+◌, ◌-◌, Bool, true, false, ◌||◌, List, [], ◌∷◌, ◌++◌, length, All, Contains, slice_set, refl, sym, ap, ◌∙◌, arith}
-use Rattle.std.specs.List.{list_any}
+use Rattle.std.proofs.Common.{◌≡◌, ◌≢◌, ◌↔◌, ◌==◌, ◌⊎◌, inl, inr, ◌<◌, ◌≤◌, ℕ, zero, suc, ◌+◌, ◌-◌, Bool, true, false, ◌||◌, List, [], ◌∷◌, ◌++◌, length, All, Contains, slice_set, refl, sym, ap, ◌∙◌, arith}
 use Rattle.std.proofs.lemmas.Bool.{cases_eq, eq-eqb, ne_eqb}
 use Rattle.std.proofs.lemmas.List.{append_assoc, get_or-set_other, length-append}
 use Rattle.std.proofs.lemmas.List.Elements.{All-nil, All-head, All-tail, All-cons, All-weaker}
 use Rattle.ed_syntax.specs.Commands.{Script}
-use Rattle.ed_syntax.specs.meaning.Erasure.{script_names, step_names, steps_name, letters_of, AreApart}
+use Rattle.ed_syntax.specs.meaning.Erasure.{script_names, steps_name, letters_of, AreApart}
 use Rattle.ed_rules.specs.declared.state.State.{State}
-use Rattle.ed_rules.specs.States.{start}
 use Rattle.ed_rules.specs.Marks.{is_sure, no_marks}
 use Rattle.ed_rules.proofs.sound.LettersInLines.{no_letter}
 use Rattle.landmarks.specs.declared.landmark.Landmark.{Landmark}
 use Rattle.landmarks.specs.Places.{AreAt}
 use Rattle.landmarks.specs.Starts.{AreEachAt, marks_at}
-use Rattle.cert_check.specs.Certificates.{Certificate}
-use Rattle.cert_check.specs.checker.Beginning.{chains_of, count_of, unnamed_below, letters_for, letters_of_chains, has_letters, with_sure, began, start_of}
+use Rattle.cert_check.specs.checker.Beginning.{count_of, IsCounted, unnamed_below, letters_for, count_unnamed, letters_left, letters_of_chains, has_letters, with_sure, with_landmarks}
 
 -- a letter below one that the script doesn't name
 abbrev pub IsFree : Script → (below letter : ℕ) → Type 0
@@ -138,38 +135,104 @@ few-letters script (suc below) (suc count) =
       | false ↦ let more = few-letters script below count in let low = more.0 in let few = more.1 in (omega arith, omega arith)
     ]
 
--- there are more landmarks than letters at all
-pub too-many : (script : Script) (chains stated : List (List Landmark)) → chains ≡ stated → 26 < count_of chains →
-    has_letters script stated ≡ false
-too-many script chains stated is many =
-    let few = (few-letters script 26 (count_of chains)).0 in
-    ap (has_letters script) (sym is)
-    ∙ ne_eqb (length (letters_of_chains script chains)) (count_of chains) (λ e. omega arith)
+-- there are as many as are wanted, or all that the script leaves
+abbrev IsTaken : (taken count left : ℕ) → Type 0
+IsTaken taken count left = ((taken ≡ count) × (count ≤ left)) ⊎ ((taken ≡ left) × (left ≤ count))
 
--- or more than the script leaves
-pub too-few : (script : Script) (chains stated : List (List Landmark)) (letters : List ℕ) (count : ℕ) → chains ≡ stated →
-    count ≡ count_of chains → letters ≡ letters_for script count → length letters < count → has_letters script stated ≡ false
-too-few script chains stated letters count is size own few =
-    let same : letters ≡ letters_of_chains script chains = own ∙ ap (letters_for script) size in
-    let long : length letters ≡ length (letters_of_chains script chains) = ap length same in
-    ap (has_letters script) (sym is)
-    ∙ ne_eqb (length (letters_of_chains script chains)) (count_of chains) (λ e. omega arith)
+one-more : (taken count left : ℕ) → IsTaken taken count left → IsTaken (suc taken) (suc count) (suc left)
+one-more taken count left (inl all) = let is = all.0 in let most = all.1 in inl (ap suc is, omega arith)
+one-more taken count left (inr few) = let is = few.0 in let most = few.1 in inr (ap suc is, omega arith)
 
--- else there are enough, and the start is that of the certificate
-pub begins-so : (script : Script) (c : Certificate) (chains : List (List Landmark)) (letters : List ℕ) (count : ℕ) (s t : State) →
-    chains ≡ chains_of c → count ≡ count_of chains → letters ≡ letters_for script count → count ≤ length letters →
-    s ≡ start c.path c.min c.max c.has → t ≡ began c.version letters chains s →
-    (has_letters script (chains_of c) ≡ true) × (t ≡ start_of script c)
-begins-so script c chains letters count s t is size own enough first new =
-    let same : letters ≡ letters_of_chains script chains = own ∙ ap (letters_for script) size in
-    let long : length letters ≡ length (letters_of_chains script chains) = ap length same in
-    let few = (few-letters script 26 (count_of chains)).1 in (
-      ap (has_letters script) (sym is)
-          ∙ eq-eqb (length (letters_of_chains script chains)) (count_of chains) (omega arith),
-      new ∙ ap (λ (ls : List ℕ). began c.version ls chains s) same
-          ∙ ap (λ (u : State). began c.version (letters_of_chains script chains) chains u) first
-          ∙ ap (λ (cs : List (List Landmark)). began c.version (letters_of_chains script cs) cs (start c.path c.min c.max c.has)) is,
+taken-so : (script : Script) (below count : ℕ) →
+    IsTaken (length (unnamed_below below script count)) count (count_unnamed below script)
+taken-so script zero count = inr (refl, omega arith)
+taken-so script (suc below) zero = inl (refl, omega arith)
+taken-so script (suc below) (suc count) =
+    elim (script_names below script) as (λ b. IsTaken
+    (length (elim b as (λ _. List ℕ) [
+      | true ↦ unnamed_below below script (suc count)
+      | false ↦ below ∷ unnamed_below below script count
+    ])) (suc count)
+    (elim b as (λ _. ℕ) [ true ↦ count_unnamed below script | false ↦ suc (count_unnamed below script) ])) [
+      | true ↦ taken-so script below (suc count)
+      | false ↦ one-more (length (unnamed_below below script count)) count (count_unnamed below script) (taken-so script below count)
+    ]
+
+pub few-left : (script : Script) (below : ℕ) → count_unnamed below script ≤ below
+few-left script zero = omega arith
+few-left script (suc below) =
+    elim (script_names below script) as (λ b.
+    elim b as (λ _. ℕ) [ true ↦ count_unnamed below script | false ↦ suc (count_unnamed below script) ] ≤ suc below) [
+      | true ↦ let few = few-left script below in omega arith
+      | false ↦ let few = few-left script below in omega arith
+    ]
+
+-- there are too few just where the script leaves fewer than are wanted
+lettered-by : (script : Script) (count : ℕ) →
+    IsTaken (length (letters_for script count)) count (letters_left script) →
+    ((length (letters_for script count) == count) ≡ false) ↔ (letters_left script < count)
+lettered-by script count (inl all) =
+    let is = all.0 in
+    let most = all.1 in (
+      λ e. let f : true ≡ false = sym (eq-eqb (length (letters_for script count)) count is) ∙ e in absurd cc,
+      λ less. let no : ⊥ = omega arith in absurd no,
     )
+lettered-by script count (inr few) =
+    let is = few.0 in
+    let most = few.1 in (
+      λ e. elim (cases_eq (letters_left script) count) [
+        | inl same ↦
+            let f : true ≡ false = sym (eq-eqb (length (letters_for script count)) count (is ∙ same)) ∙ e in absurd cc
+        | inr other ↦ omega arith
+      ],
+      λ less. ne_eqb (length (letters_for script count)) count (λ e. omega arith),
+    )
+
+pub too-few-just-so : (script : Script) (chains : List (List Landmark)) →
+    (has_letters script chains ≡ false) ↔ (letters_left script < count_of chains)
+too-few-just-so script chains = lettered-by script (count_of chains) (taken-so script 26 (count_of chains))
+
+-- the letters of so many landmarks as were counted, if they are fewer than that
+pub too-few : (script : Script) (chains : List (List Landmark)) (letters : List ℕ) (count : ℕ) → IsCounted count (count_of chains) →
+    letters ≡ letters_for script count → length letters < count → has_letters script chains ≡ false
+too-few script chains letters count (inl size) own few =
+    let same : letters ≡ letters_of_chains script chains = own ∙ ap (letters_for script) size in
+    let long : length letters ≡ length (letters_of_chains script chains) = ap length same in
+    ne_eqb (length (letters_of_chains script chains)) (count_of chains) (λ e. omega arith)
+too-few script chains letters count (inr most) own few =
+    let size = most.0 in
+    let more = most.1 in
+    let at_most = (few-letters script 26 (count_of chains)).0 in
+    ne_eqb (length (letters_of_chains script chains)) (count_of chains) (λ e. omega arith)
+
+-- else there are enough, and they are these
+pub enough : (script : Script) (chains : List (List Landmark)) (letters : List ℕ) (count : ℕ) → IsCounted count (count_of chains) →
+    letters ≡ letters_for script count → count ≤ length letters →
+    (has_letters script chains ≡ true) × (letters ≡ letters_of_chains script chains)
+enough script chains letters count (inl size) own many =
+    let same : letters ≡ letters_of_chains script chains = own ∙ ap (letters_for script) size in
+    let long : length letters ≡ length (letters_of_chains script chains) = ap length same in
+    let few = (few-letters script 26 (count_of chains)).1 in
+    (eq-eqb (length (letters_of_chains script chains)) (count_of chains) (omega arith), same)
+enough script chains letters count (inr most) own many =
+    let size = most.0 in
+    let long : length letters ≡ length (letters_for script count) = ap length own in
+    let at_most = (few-letters script 26 count).0 in
+    let no : ⊥ = omega arith in absurd no
+
+-- what is said of there being enough
+pub known-just-so : (script : Script) (chains : List (List Landmark)) (known : Bool) → known ≡ has_letters script chains →
+    (known ≡ false) ↔ (letters_left script < count_of chains)
+known-just-so script chains known is =
+    let so = too-few-just-so script chains in
+    (λ e. so.0 (sym is ∙ e), λ less. is ∙ so.1 less)
+
+-- and then the landmarks are known by these
+pub knows-so : (script : Script) (chains : List (List Landmark)) (letters same : List ℕ) (count : ℕ) (old new : State) →
+    IsCounted count (count_of chains) → letters ≡ letters_for script count → count ≤ length letters → same ≡ letters →
+    new ≡ with_landmarks same chains old → new ≡ with_landmarks (letters_of_chains script chains) chains old
+knows-so script chains letters same count old new size own many is known =
+    known ∙ ap (λ (ls : List ℕ). with_landmarks ls chains old) (is ∙ (enough script chains letters count size own many).1)
 
 -- ONE LETTER FURTHER
 

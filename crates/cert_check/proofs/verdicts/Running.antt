@@ -42,6 +42,7 @@ use Rattle.cert_check.specs.declared.certificate.Version.TheVariants as version
 use Rattle.cert_check.specs.declared.sight.Sight.{Sight}
 use Rattle.cert_check.specs.checker.Valid.{told_by, told, counted, are_met, left_by, is_listed, are_listed, knows_least, knows_most}
 use Rattle.cert_check.specs.checker.Sound.{MayAsk, RunsWell, GlobalGoesWell}
+use Rattle.cert_check.proofs.verdicts.FormedFacts.{in-form-stands-by, in-form-stands}
 use Rattle.cert_check.proofs.verdicts.Checks.{EndsSo, NeedsAreTheSame, plainly_left, met-gives}
 use Rattle.cert_check.proofs.verdicts.Quitting.{SameMade, SavedMade, quit-leaves, saved-leaves}
 
@@ -81,7 +82,7 @@ stands-told version.One s e number st =
     record { buffer = st.buffer; remembered = st.remembered; changed = st.changed; past = past-without s.undo e.past st.past }
 stands-told version.Two s e number st =
     record { buffer = st.buffer; remembered = st.remembered; changed = st.changed; past = past-without s.undo e.past st.past }
-stands-told version.Three s e number st = st
+stands-told version.Three s e number st = in-form-stands-by s e number st
 
 pub told-stands-by : (v : Version) (s : State) (e : editor.State) → StandsFor s e → StandsFor (told_by v s) e
 told-stands-by version.One s e st = record {
@@ -100,7 +101,7 @@ told-stands-by version.Two s e st = record {
   matches = st.matches;
   facts = nothing-holds st.numbers e.lines;
 }
-told-stands-by version.Three s e st = st
+told-stands-by version.Three s e st = in-form-stands s e st
 
 pub told-stands : (w : Sight) (s : State) (e : editor.State) → StandsFor s e → StandsFor (told w s) e
 told-stands w s e st = told-stands-by w.version s e st

@@ -20,7 +20,7 @@ use Rattle.ed_rules.specs.States.{start}
 use Rattle.ed_rules.specs.LineBounds.{IsWithin}
 use Rattle.landmarks.specs.ChainValues.{ChainValue}
 use Rattle.landmarks.specs.Starts.{AreEachAt, marks_at}
-use Rattle.cert_check.specs.checker.Beginning.{landmarks_of, stated_chains, chains_of, count_of, letters_of_chains, has_letters, began, start_of}
+use Rattle.cert_check.specs.checker.Beginning.{landmarks_of, stated_chains, chains_of, count_of, letters_of_chains, has_letters, with_landmarks, began, start_of}
 use Rattle.cert_check.specs.checker.Opening.{opened, Match, StartIsSound}
 use Rattle.cert_check.specs.declared.certificate.Version.{Version}
 use Rattle.cert_check.specs.declared.certificate.Version.TheVariants as version
@@ -121,7 +121,9 @@ begun laws sound stand script version.Two has chains path min max bytes places e
 begun laws sound stand script version.Three has chains path min max bytes places enough within matched at =
     let landmarks = landmarks_of chains in (
       are-unnamed script 26 (letters_of_chains script landmarks) places (are-free script 26 (count_of landmarks)),
-      landmarks-stand laws sound stand script landmarks path min max has bytes places enough within matched at,
+      told-stands-by version.Three (with_landmarks (letters_of_chains script landmarks) landmarks (start path min max has))
+          (opened_with (marks_at (letters_of_chains script landmarks) places) path bytes)
+          (landmarks-stand laws sound stand script landmarks path min max has bytes places enough within matched at),
     )
 
 pub accepted-safe : LandmarkLaws → StartIsSound → MarkedStartsStand → MarkedStartsSuffice → (script : Script) (c : Certificate) →

@@ -1,5 +1,5 @@
 -- What is known at the start of a run: what its certificate says of the file, and which letters its landmarks take.
-use Rattle.std.specs.Prelude.{ℕ, zero, suc, ◌+◌, ◌==◌, Bool, true, false, List, [], ◌∷◌, map, length, slice_set}
+use Rattle.std.specs.Prelude.{◌≡◌, ◌⊎◌, ◌<◌, ℕ, zero, suc, ◌+◌, ◌==◌, Bool, true, false, List, [], ◌∷◌, map, length, slice_set}
 use Rattle.zones.specs.Name.{mark}
 use Rattle.ed_syntax.specs.Commands.{Script}
 use Rattle.ed_syntax.specs.meaning.Erasure.{script_names}
@@ -30,6 +30,10 @@ abbrev pub count_of : List (List Landmark) → ℕ
 count_of [] = 0
 count_of (chain ∷ chains) = length chain + count_of chains
 
+-- a number counts so many, or it is the greatest of 64 bits, and they are more
+abbrev pub IsCounted : (number count : ℕ) → Type 0
+IsCounted number count = (number ≡ count) ⊎ ((number ≡ 18446744073709551615) × (number < count))
+
 -- the letters below one that a script doesn't name, from the last one down: at most so many
 abbrev pub unnamed_below : (letter : ℕ) → Script → (count : ℕ) → List ℕ
 unnamed_below zero script count = []
@@ -44,6 +48,16 @@ unnamed_below (suc letter) script (suc count) =
 -- the script leaves too few, they are fewer.
 abbrev pub letters_for : Script → (count : ℕ) → List ℕ
 letters_for script count = unnamed_below 26 script count
+
+-- how many letters below one a script doesn't name
+abbrev pub count_unnamed : (letter : ℕ) → Script → ℕ
+count_unnamed zero script = 0
+count_unnamed (suc letter) script =
+    elim (script_names letter script) [ true ↦ count_unnamed letter script | false ↦ suc (count_unnamed letter script) ]
+
+-- how many letters a script leaves for landmarks
+abbrev pub letters_left : Script → ℕ
+letters_left script = count_unnamed 26 script
 
 abbrev pub letters_of_chains : Script → List (List Landmark) → List ℕ
 letters_of_chains script chains = letters_for script (count_of chains)

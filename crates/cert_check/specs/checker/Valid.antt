@@ -16,6 +16,7 @@ use Rattle.ed_rules.specs.Matched.{watched}
 use Rattle.ed_rules.specs.KnownMatches.{no_matches}
 use Rattle.cert_check.specs.checker.Covering.{covers}
 use Rattle.cert_check.specs.checker.Beginning.{chains_of, has_letters, start_of}
+use Rattle.cert_check.specs.checker.InForm.{state_in_form}
 use Rattle.ed_rules.specs.Rules.{step, fault_of}
 use Rattle.ed_rules.specs.Globals.{body_entry, loop_end}
 use Rattle.cert_check.specs.declared.checker.verdict.Place.{Place}
@@ -70,11 +71,11 @@ abbrev pub seen_by : Script → Certificate → Sight
 seen_by script c = sight_of script c.version c.has
 
 -- A state that a rule gives, as far as the version tells it: version 1 tells nothing of matches, and versions 1 and 2 tell nothing of single
--- lines, which they don't follow. Version 3 tells all.
+-- lines, which they don't follow. Version 3 tells all that can be written: the facts are put in form.
 abbrev pub told_by : Version → State → State
 told_by version.One s = record (without_facts s) { matches = no_matches }
 told_by version.Two s = without_facts s
-told_by version.Three s = s
+told_by version.Three s = state_in_form s
 
 abbrev pub told : Sight → State → State
 told w s = told_by w.version s

@@ -1,10 +1,10 @@
 //! What is known at the start of a run, by what its certificate says of the file.
 
-ghost use Rattle.std.specs.Prelude.{◌≡◌, ◌<◌, ◌≤◌, ℕ, true, false, map, IfOk, OnOk, MatchOption};
+ghost use Rattle.std.specs.Prelude.{◌≡◌, ◌<◌, ◌≤◌, ◌↔◌, true, false, map, IfOk, OnOk, MatchOption};
 ghost use Rattle.zones.specs.Name.{mark};
 ghost use Rattle.ed_syntax.specs.PublicScript.{script_value};
 ghost use Rattle.cert_check.specs.Certificates.{certificate_value};
-ghost use Rattle.cert_check.specs.checker.Beginning.{landmarks_of, chains_of, count_of, letters_for, has_letters, with_sure, with_landmarks, began, start_of};
+ghost use Rattle.cert_check.specs.checker.Beginning.{landmarks_of, stated_chains, chains_of, count_of, IsCounted, letters_for, letters_left, letters_of_chains, has_letters, with_sure, with_landmarks, began, start_of};
 
 use crate::certificate::{Certificate, Version};
 use ed_base::Letter;
@@ -14,31 +14,33 @@ use landmarks::{LandmarkChain, know_landmarks};
 use std::alloc::{AllocError, Global};
 use zones::Name;
 
-/// The chains of landmarks that count in the certificate's version.
-fn chains_of(certificate: &Certificate) -> &[LandmarkChain]
-    ensures value { landmarks_of result.now ≡ chains_of (certificate_value certificate.now) }
-{
-    match certificate.version {
-        Version::One => &[],
-        Version::Two => &[],
-        Version::Three => certificate.landmarks.as_slice(),
-    }
-}
-
-/// How many landmarks some chains have; `None` where they are more than the letters.
-fn count(chains: &[LandmarkChain]) -> Option<usize>
-    ensures exact { MatchOption result (26 < count_of (landmarks_of chains.now))
-        (λ count. (count ≡ count_of (landmarks_of chains.now)) × (count ≤ 26)) }
+/// How many landmarks some chains have. Where they are more than a `usize` can count, it is `usize::MAX`.
+pub fn landmarks_in(chains: &[LandmarkChain]) -> usize
+    ensures value { IsCounted result (count_of (landmarks_of chains.now)) }
 {
     let mut count = 0;
     for chain in chains {
         let more = chain.landmarks().len();
-        if more > Letter::COUNT - count {
-            return None;
+        if more > usize::MAX - count {
+            return usize::MAX;
         }
         count += more;
     }
-    Some(count)
+    count
+}
+
+/// How many letters a script leaves for landmarks: those that it doesn't name, of the 26.
+pub fn letters_left(script: &Script) -> usize
+    ensures value { result ≡ letters_left (script_value script.now) }
+    ensures few { result ≤ 26 }
+{
+    let mut left = 0;
+    for place in 0..Letter::COUNT {
+        if !script.names(Letter::at(place)) {
+            left += 1;
+        }
+    }
+    left
 }
 
 /// The letters from `z` down that a script doesn't name, up to so many.
@@ -95,20 +97,53 @@ fn know(
     Ok(())
 }
 
-/// From now on the state knows what it should in this version. After an `Err` it is some state.
+/// From now on the state knows of chains of landmarks that the start has: each landmark's line is marked by a letter that the script doesn't
+/// name, from `z` down, in the order of the chains. Says whether the script leaves so many letters; where it leaves too few, the state stays
+/// as it was. After an `Err` it is some state.
+pub fn know_chains(
+    state: &mut State,
+    script: &Script,
+    chains: &[LandmarkChain],
+) -> Result<bool, AllocError>
+    ensures value { IfOk result (λ known. known ≡
+        has_letters (script_value script.now) (landmarks_of chains.now)) }
+    ensures knows { IfOk result (λ known. known ≡ true → state.new ≡
+        with_landmarks (letters_of_chains (script_value script.now) (landmarks_of chains.now))
+        (landmarks_of chains.now) state.old) }
+    ensures unchanged { IfOk result (λ known. known ≡ false → state.new ≡ state.old) }
+
+    // There are too few letters exactly where the script leaves fewer than the chains have landmarks.
+    ensures few { IfOk result (λ known. known ≡ false ↔
+        (letters_left (script_value script.now) < count_of (landmarks_of chains.now))) }
+{
+    let alloc = *script.commands.allocator();
+    let count = landmarks_in(chains);
+    let letters = letters_for(script, count)?;
+    if letters.len() < count {
+        return Ok(false);
+    }
+    know(state, alloc, letters.as_slice(), chains)?;
+    Ok(true)
+}
+
+/// From now on the state knows of the landmarks that count in this version. Says whether the script leaves letters for them. After an `Err`
+/// it is some state.
 fn begin(
     state: &mut State,
     version: Version,
-    alloc: Global,
-    letters: &[Letter],
+    script: &Script,
     chains: &[LandmarkChain],
-) -> Result<(), AllocError>
-    ensures value { OnOk result (state.new ≡ began version letters.now (landmarks_of chains.now) state.old) }
+) -> Result<bool, AllocError>
+    ensures value { IfOk result (λ known. known ≡
+        has_letters (script_value script.now) (stated_chains version chains.now)) }
+    ensures began { IfOk result (λ known. known ≡ true → state.new ≡
+        began version (letters_of_chains (script_value script.now) (stated_chains version chains.now))
+        (stated_chains version chains.now) state.old) }
 {
     match version {
-        Version::One => Ok(()),
-        Version::Two => Ok(()),
-        Version::Three => know(state, alloc, letters, chains),
+        Version::One => Ok(true),
+        Version::Two => Ok(true),
+        Version::Three => know_chains(state, script, chains),
     }
 }
 
@@ -123,23 +158,17 @@ pub(crate) fn start_of(
         (λ state. (has_letters (script_value script.now) (chains_of (certificate_value certificate.now)) ≡ true) ×
         (state ≡ start_of (script_value script.now) (certificate_value certificate.now)))) }
 {
-    let alloc = *script.commands.allocator();
-    let chains = chains_of(certificate);
-    let Some(count) = count(chains) else {
-        return Ok(None);
-    };
-    let letters = letters_for(script, count)?;
-    if letters.len() < count {
-        return Ok(None);
-    }
     let mut state = State::start(
-        alloc,
+        *script.commands.allocator(),
         &certificate.path,
         certificate.min,
         certificate.max,
         &certificate.has,
     )?;
-    let version = certificate.version;
-    begin(&mut state, version, alloc, letters.as_slice(), chains)?;
-    Ok(Some(state))
+    let chains = certificate.landmarks.as_slice();
+    if begin(&mut state, certificate.version, script, chains)? {
+        Ok(Some(state))
+    } else {
+        Ok(None)
+    }
 }

@@ -166,19 +166,33 @@ fn stretches_in(
     Ok(Some(stretches))
 }
 
-fn is_fact_before(one: &KnownLine, other: &KnownLine) -> bool
-    ensures value { result ≡ is_lt (fact_order one.now other.now) }
+/// Which of two facts stands first in the text; `Equal` where both have one name and pattern.
+pub(crate) fn compare_facts(one: &KnownLine, other: &KnownLine) -> Ordering
+    ensures value { result ≡ fact_order one.now other.now }
 {
     let patterns = one.pattern.as_slice().cmp(&other.pattern.as_slice());
-    one.name.place().cmp(&other.name.place()).then(patterns) == Ordering::Less
+    one.name.place().cmp(&other.name.place()).then(patterns)
 }
 
-fn is_stretch_before(one: &ClearStretch, other: &ClearStretch) -> bool
-    ensures value { result ≡ is_lt (stretch_order one.now other.now) }
+/// Which of two stretches stands first in the text.
+pub(crate) fn compare_stretches(one: &ClearStretch, other: &ClearStretch) -> Ordering
+    ensures value { result ≡ stretch_order one.now other.now }
 {
     let patterns = one.pattern.as_slice().cmp(&other.pattern.as_slice());
     let ends = one.before.cmp(&other.before).then(patterns);
-    one.after.cmp(&other.after).then(ends) == Ordering::Less
+    one.after.cmp(&other.after).then(ends)
+}
+
+pub(crate) fn is_fact_before(one: &KnownLine, other: &KnownLine) -> bool
+    ensures value { result ≡ is_lt (fact_order one.now other.now) }
+{
+    compare_facts(one, other) == Ordering::Less
+}
+
+pub(crate) fn is_stretch_before(one: &ClearStretch, other: &ClearStretch) -> bool
+    ensures value { result ≡ is_lt (stretch_order one.now other.now) }
+{
+    compare_stretches(one, other) == Ordering::Less
 }
 
 /// Whether each fact stands before those after it.

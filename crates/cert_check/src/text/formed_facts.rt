@@ -17,7 +17,7 @@ fn fact_is_formed(marks: &Marks, fact: &KnownLine) -> bool
 }
 
 /// Whether a stretch may begin after a name.
-fn begins_stretch(marks: &Marks, after: u8) -> bool
+pub(crate) fn begins_stretch(marks: &Marks, after: u8) -> bool
     ensures value { result ≡ begins_stretch marks.now after }
 {
     if after >= 32 {
@@ -29,7 +29,7 @@ fn begins_stretch(marks: &Marks, after: u8) -> bool
 }
 
 /// Whether a stretch may end before a name, or at the end.
-fn ends_stretch(marks: &Marks, before: u8) -> bool
+pub(crate) fn ends_stretch(marks: &Marks, before: u8) -> bool
     ensures value { result ≡ ends_stretch marks.now before }
 {
     if before == ClearStretch::END {
