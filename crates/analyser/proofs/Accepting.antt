@@ -17,17 +17,16 @@ use Rattle.cert_check.specs.declared.sight.Sight.{Sight}
 use Rattle.cert_check.specs.checker.Covering.{covers}
 use Rattle.cert_check.specs.declared.checker.verdict.Verdict.TheVariants.{Accepted}
 use Rattle.cert_check.specs.Certificates.{Looped, Note, Certificate}
-use Rattle.cert_check.specs.checker.Beginning.{chains_of, stated_chains, has_letters, letters_of_chains, began, start_of}
-use Rattle.cert_check.specs.checker.Valid.{Check, at, seen_by, sight_of, told, told_by, verdict_of, counted, has_quit, left_after, is_listed, knows_least, knows_most, end_checks, checks_from, fits_list, are_shaped, judged}
+use Rattle.cert_check.specs.checker.Beginning.{landmarks_of, chains_of, stated_chains, has_letters, letters_of_chains, began, start_of}
+use Rattle.cert_check.specs.checker.Valid.{Check, at, seen_by, sight_of, told, verdict_of, counted, has_quit, left_after, is_listed, knows_least, knows_most, end_checks, checks_from, fits_list, are_shaped, judged}
 use Rattle.analyser.specs.declared.analysis.Start.{Start}
 use Rattle.analyser.specs.Rounds.{entered}
-use Rattle.analyser.specs.Following.{IsKnownOfList, AreNotes, result_from, paths_from, version_of, stated_of, sight_over, end_fault, begun}
+use Rattle.analyser.specs.Following.{IsKnownOfList, AreNotes, result_from, paths_from, do_count, version_by, version_of, chains_by, chains_of_start, sight_over, end_fault, knowing, begun}
 use Rattle.analyser.specs.Analysis.{low_of, high_of, IsCertificate}
 use Rattle.analyser.proofs.Checking.{Laws, covers-same, notes-hold}
 use Rattle.analyser.proofs.Listing.{listed-each}
 use Rattle.analyser.proofs.ToldBounds.{knows-low, knows-high}
 use Rattle.analyser.proofs.Rounding.{inner-length}
-use Rattle.analyser.proofs.Telling.{sight-version}
 
 -- CHECKS
 
@@ -85,50 +84,59 @@ end-holds k quit bad c number s last e least most =
 
 -- THE CERTIFICATE
 
--- what is told of the start is what is known there
-told-start : (path : Option (List ℕ)) (min : ℕ) (max : Option ℕ) (has : Option (List (List ℕ))) →
-    told_by (version_of has) (states.start path min max (stated_of has)) ≡ states.start path min max (stated_of has)
-unfolding states.start
-told-start path min max None = refl
-told-start path min max (Some has) = refl
-
 -- what the checker judges by is what was asked for
 sight-asked : (script : Script) (start : Start) (c : Certificate) → IsCertificate script start c → seen_by script c ≡ sight_over script start
 sight-asked script start c is =
-    ap (λ version. sight_of script version c.has) is.version ∙ ap (λ has. sight_of script (version_of start.has) has) is.has
+    ap (λ version. sight_of script version c.has) is.version ∙ ap (λ has. sight_of script (version_of script start) has) is.has
 
--- no landmarks are stated
-began-without : (has : Option (List (List ℕ))) (letters : List ℕ) (chains : List (List Landmark)) (s : State) →
-    began (version_of has) letters chains s ≡ s
-began-without None letters chains s = refl
-began-without (Some has) letters chains s = refl
+-- the chains that count are those that a certificate of the version states,
+chains-stated : (counts : Bool) (has : Option (List (List ℕ))) (landmarks : Option (List ChainValue)) →
+    stated_chains (version_by counts has) (chains_by counts landmarks) ≡ landmarks_of (chains_by counts landmarks)
+chains-stated true has landmarks = refl
+chains-stated false None landmarks = refl
+chains-stated false (Some has) landmarks = refl
 
-no_letters-asked : (script : Script) (has : Option (List (List ℕ))) (chains : List ChainValue) →
-    has_letters script (stated_chains (version_of has) chains) ≡ true
-no_letters-asked script None chains = refl
-no_letters-asked script (Some has) chains = refl
+-- and the script leaves letters for them
+chains-lettered : (script : Script) (landmarks : Option (List ChainValue)) →
+    has_letters script (landmarks_of (chains_by (do_count script landmarks) landmarks)) ≡ true
+unfolding do_count
+chains-lettered script None = refl
+chains-lettered script (Some chains) = by (has_letters script (landmarks_of chains)) refl
+  where
+    by : (counts : Bool) → has_letters script (landmarks_of chains) ≡ counts →
+        has_letters script (landmarks_of (chains_by counts (Some chains))) ≡ true
+    by true e = e
+    by false e = refl
+
+stated-so : (script : Script) (start : Start) (c : Certificate) → IsCertificate script start c →
+    chains_of c ≡ landmarks_of (chains_of_start script start)
+stated-so script start c is =
+    ap (λ (v : Version). stated_chains v c.landmarks) is.version
+    ∙ ap (λ (chains : List ChainValue). stated_chains (version_of script start) chains) is.landmarks
+    ∙ chains-stated (do_count script start.landmarks) start.has start.landmarks
 
 begins-as : (script : Script) (start : Start) (c : Certificate) → IsCertificate script start c →
-    told (sight_over script start) (start_of script c) ≡ begun start
+    told (sight_over script start) (start_of script c) ≡ begun script start
+unfolding knowing
 begins-as script start c is =
-    let s : State = states.start c.path c.min c.max c.has in
-    let letters : List ℕ = letters_of_chains script (chains_of c) in
+    let v : Version = version_of script start in
+    let chains : List (List Landmark) = landmarks_of (chains_of_start script start) in
+    let from : State → State = λ (s : State). began v (letters_of_chains script chains) chains s in
     ap (λ (t : State). told (sight_over script start) t)
-    (ap (λ version. began version letters (chains_of c) s) is.version ∙ began-without start.has letters (chains_of c) s)
-    ∙ ap (λ version. told_by version (states.start c.path c.min c.max c.has)) (sight-version script start.has)
-    ∙ ap (λ path. told_by (version_of start.has) (states.start path c.min c.max c.has)) is.path
-    ∙ ap (λ min. told_by (version_of start.has) (states.start start.path min c.max c.has)) is.min
-    ∙ ap (λ max. told_by (version_of start.has) (states.start start.path start.min max c.has)) is.max
-    ∙ ap (λ has. told_by (version_of start.has) (states.start start.path start.min start.max has)) is.has
-    ∙ told-start start.path start.min start.max start.has
+    (ap (λ (u : Version). began u (letters_of_chains script (chains_of c)) (chains_of c) (states.start c.path c.min c.max c.has)) is.version
+    ∙ ap (λ (cs : List (List Landmark)). began v (letters_of_chains script cs) cs (states.start c.path c.min c.max c.has)) (stated-so script start c is)
+    ∙ ap (λ path. from (states.start path c.min c.max c.has)) is.path
+    ∙ ap (λ min. from (states.start start.path min c.max c.has)) is.min
+    ∙ ap (λ max. from (states.start start.path start.min max c.has)) is.max
+    ∙ ap (λ has. from (states.start start.path start.min start.max has)) is.has)
 
 -- where it is known at the end that there are at least 0 lines
 pub accepted : Laws → (script : Script) (start : Start) (c : Certificate) → IsCertificate script start c →
-    IsCounted (result_from (sight_over script start) (counted script.steps) (begun start) c.notes).zone → judged script c ≡ Accepted
+    IsCounted (result_from (sight_over script start) (counted script.steps) (begun script start) c.notes).zone → judged script c ≡ Accepted
 accepted k script start c is counts =
     let w : Sight = sight_over script start in
     let xs : List Step = counted script.steps in
-    let s : State = begun start in
+    let s : State = begun script start in
     let t : State = result_from w xs s c.notes in
     let quit : Bool = has_quit script.steps in
     let fewest : knows_least t.zone c.low ≡ true =
@@ -147,8 +155,7 @@ accepted k script start c is counts =
     subst (λ (v : Sight). All Holds (checks_from v c.writes end 1 (told v (start_of script c)) xs c.notes)) (sym (sight-asked script start c is)) begins in
     let later : List Check = checks_from (seen_by script c) c.writes end 1 (told (seen_by script c) (start_of script c)) xs c.notes in
     let lettered : has_letters script (chains_of c) ≡ true =
-    subst (λ (v : Version). has_letters script (stated_chains v c.landmarks) ≡ true) (sym is.version)
-    (no_letters-asked script start.has c.landmarks) in
+    ap (has_letters script) (stated-so script start c is) ∙ chains-lettered script start.landmarks in
     all-accepted (at 0 (are_shaped xs c.notes) ∷ at 0 (has_letters script (chains_of c)) ∷ later)
     (holds-at (are_shaped xs c.notes) 0 (at 0 (has_letters script (chains_of c)) ∷ later) (shaped w xs s c.notes is.notes)
     (holds-at (has_letters script (chains_of c)) 0 later lettered seen))

@@ -202,7 +202,7 @@ module _ (k : Laws) (w : Sight) (place : Place) (writes : List (List ℕ)) where
 pub checked-before : Laws → (script : Script) (start : Start) (place : Place) (why : Fault) (notes : List Note) → IsFailure script start place why notes → ChecksHoldBefore place script start notes
 checked-before k script start place why notes (inl fails) writes listed =
     let number : place.command ≡ length notes = fails.number in
-    notes-fail k (sight_over script start) place writes place.inner 1 why (begun start) (counted script.steps) notes fails.fails (omega arith) refl (listed-each writes (paths_from (counted script.steps) notes) listed)
+    notes-fail k (sight_over script start) place writes place.inner 1 why (begun script start) (counted script.steps) notes fails.fails (omega arith) refl (listed-each writes (paths_from (counted script.steps) notes) listed)
 checked-before k script start place why notes (inr fails) writes listed =
-    notes-hold k (sight_over script start) (HoldsBefore k (sight_over script start) place writes) (holds k (sight_over script start) place writes) writes (λ number left. []) 1 (begun start) (counted script.steps) notes fails.noted
+    notes-hold k (sight_over script start) (HoldsBefore k (sight_over script start) place writes) (holds k (sight_over script start) place writes) writes (λ number left. []) 1 (begun script start) (counted script.steps) notes fails.noted
     (listed-each writes (paths_from (counted script.steps) notes) listed) (All-nil (HoldsBefore k (sight_over script start) place writes))

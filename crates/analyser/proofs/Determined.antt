@@ -206,13 +206,13 @@ same-place one other e f = ap (λ (n : ℕ). let p : Place = record { command = 
 pub either-comes : (script : Script) (start : Start) (c : Certificate) (place : Place) (why : Fault) (notes : List Note) →
     IsCertificate script start c → IsFailure script start place why notes → ⊥
 either-comes script start c place why notes h (inl fails) =
-    notes-hold_or_fail (sight_over script start) place.inner why (counted script.steps) (begun start) c.notes notes h.notes fails.fails
+    notes-hold_or_fail (sight_over script start) place.inner why (counted script.steps) (begun script start) c.notes notes h.notes fails.fails
 either-comes script start c place why notes h (inr fails) =
     let w : Sight = sight_over script start in
-    let same : c.notes ≡ notes = notes-once w (counted script.steps) (begun start) c.notes notes h.notes fails.noted in
-    let last : c.last ≡ result_from w (counted script.steps) (begun start) notes = h.last
-    ∙ ap (λ (ns : List Note). result_from w (counted script.steps) (begun start) ns) same in
-    let none : end_fault (has_quit script.steps) script.fault (result_from w (counted script.steps) (begun start) notes) ≡ None =
+    let same : c.notes ≡ notes = notes-once w (counted script.steps) (begun script start) c.notes notes h.notes fails.noted in
+    let last : c.last ≡ result_from w (counted script.steps) (begun script start) notes = h.last
+    ∙ ap (λ (ns : List Note). result_from w (counted script.steps) (begun script start) ns) same in
+    let none : end_fault (has_quit script.steps) script.fault (result_from w (counted script.steps) (begun script start) notes) ≡ None =
     subst (λ (s : State). end_fault (has_quit script.steps) script.fault s ≡ None) last h.end in
     let faults : None ≡ Some why = sym none ∙ fails.fails in
     absurd cc
@@ -222,8 +222,8 @@ pub certificate-once : (script : Script) (start : Start) (one other : Certificat
 certificate-once script start one other h k =
     let w : Sight = sight_over script start in
     let xs : List Step = counted script.steps in
-    let notes : one.notes ≡ other.notes = notes-once w xs (begun start) one.notes other.notes h.notes k.notes in
-    let last : one.last ≡ other.last = h.last ∙ ap (λ (ns : List Note). result_from w xs (begun start) ns) notes ∙ sym k.last in
+    let notes : one.notes ≡ other.notes = notes-once w xs (begun script start) one.notes other.notes h.notes k.notes in
+    let last : one.last ≡ other.last = h.last ∙ ap (λ (ns : List Note). result_from w xs (begun script start) ns) notes ∙ sym k.last in
     let paths : paths_from xs one.notes ≡ paths_from xs other.notes = ap (λ (ns : List Note). paths_from xs ns) notes in
     let writes : one.writes ≡ other.writes =
     rising-once one.writes other.writes h.writes.rising k.writes.rising
@@ -238,22 +238,22 @@ pub failure-once : (script : Script) (start : Start) (place other_place : Place)
     IsFailure script start place why notes → IsFailure script start other_place other_why other_notes →
     (place ≡ other_place) × (why ≡ other_why) × (notes ≡ other_notes)
 failure-once script start place other_place why other_why notes other_notes (inl h) (inl k) =
-    let same = notes-fail-once (sight_over script start) place.inner other_place.inner why other_why (counted script.steps) (begun start)
+    let same = notes-fail-once (sight_over script start) place.inner other_place.inner why other_why (counted script.steps) (begun script start)
     notes other_notes h.fails k.fails in
     let number : place.command ≡ other_place.command = h.number ∙ ap (λ (ns : List Note). length ns) same.known ∙ sym k.number in
     (same-place place other_place number same.inner, same.why, same.known)
 failure-once script start place other_place why other_why notes other_notes (inl h) (inr k) =
-    absurd (notes-hold_or_fail (sight_over script start) place.inner why (counted script.steps) (begun start) other_notes notes k.noted
+    absurd (notes-hold_or_fail (sight_over script start) place.inner why (counted script.steps) (begun script start) other_notes notes k.noted
     h.fails)
 failure-once script start place other_place why other_why notes other_notes (inr h) (inl k) =
-    absurd (notes-hold_or_fail (sight_over script start) other_place.inner other_why (counted script.steps) (begun start) notes other_notes
+    absurd (notes-hold_or_fail (sight_over script start) other_place.inner other_why (counted script.steps) (begun script start) notes other_notes
     h.noted k.fails)
 failure-once script start place other_place why other_why notes other_notes (inr h) (inr k) =
     let w : Sight = sight_over script start in
-    let same : notes ≡ other_notes = notes-once w (counted script.steps) (begun start) notes other_notes h.noted k.noted in
+    let same : notes ≡ other_notes = notes-once w (counted script.steps) (begun script start) notes other_notes h.noted k.noted in
     let places : place ≡ other_place = h.at_end
     ∙ ap (λ (ns : List Note). let p : Place = record { command = length ns + 1; inner = None } in p) same ∙ sym k.at_end in
     let faults : Some why ≡ Some other_why = sym h.fails
-    ∙ ap (λ (ns : List Note). end_fault (has_quit script.steps) script.fault (result_from w (counted script.steps) (begun start) ns))
+    ∙ ap (λ (ns : List Note). end_fault (has_quit script.steps) script.fault (result_from w (counted script.steps) (begun script start) ns))
     same ∙ k.fails in
     (places, cc, same)

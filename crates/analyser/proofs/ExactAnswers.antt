@@ -25,18 +25,22 @@ use Rattle.ed_rules.specs.States as states
 use Rattle.ed_rules.specs.Exact.{are_exact}
 use Rattle.ed_rules.specs.LineBounds.{most_lines}
 use Rattle.ed_rules.specs.ExactRules.{Tells, StartIsExact}
+use Rattle.landmarks.specs.ChainValues.{ChainValue}
+use Rattle.cert_check.specs.declared.certificate.Version.{Version}
+use Rattle.cert_check.specs.declared.certificate.Version.TheVariants as version
 use Rattle.cert_check.specs.declared.sight.Sight.{Sight}
 use Rattle.cert_check.specs.declared.checker.verdict.Place.{Place}
 use Rattle.cert_check.specs.Certificates.{certificate_value}
+use Rattle.cert_check.specs.checker.Beginning.{landmarks_of, letters_of_chains, began}
 use Rattle.cert_check.specs.checker.Sound.{start_lines}
 use Rattle.analyser.specs.declared.analysis.Start.{Start}
 use Rattle.analyser.specs.declared.analysis.Analysis.{Analysis}
 use Rattle.analyser.specs.declared.analysis.Analysis.TheVariants.{Vouched, Cannot}
-use Rattle.analyser.specs.Following.{stated_of, sight_over, begun}
+use Rattle.analyser.specs.Following.{version_of, chains_of_start, stated_of, sight_over, knowing, begun}
 use Rattle.analyser.specs.Analysis.{low_of, high_of, IsAnswer}
 use Rattle.analyser.specs.Exactness.{to_commands, IsExactRun, FailsAt, Foretells, IsExactAnswer}
 use Rattle.analyser.proofs.ExactWalks.{walked, Falls, falls-walk, certified-walk, failed-walk}
-use Rattle.analyser.proofs.ExactRuns.{Laws, AreDone, prompted-stop, Decided, decided-fails, front_of, StaysFew, decided}
+use Rattle.analyser.proofs.ExactRuns.{Laws, AreDone, tells-told, prompted-stop, Decided, decided-fails, front_of, StaysFew, decided}
 use Rattle.analyser.proofs.ExactPlaces.{stumbles}
 
 -- THE BOUNDS OF THE END
@@ -110,18 +114,46 @@ module _ (begins : StartIsExact) (has : List (List ℕ)) (xs : List Step) where
   from-start (Some path) n o (answer.Refused ∷ more) lines done enough few = absurd cc
   from-start (Some path) n o (answer.Done ∷ more) lines done enough few = absurd cc
 
+-- what is known where no chain is stated is what is known of any start
+tells-began : (v : Version) (script : Script) (s : State) (e : editor.State) → Tells s e →
+    Tells (began v (letters_of_chains script []) [] s) e
+tells-began version.One script s e h = h
+tells-began version.Two script s e h = h
+tells-began version.Three script s e h =
+    record { zone = h.zone; marks = h.marks; names = h.names; changed = h.changed; inside = h.inside; few = h.few }
+
+tells-begun : (script : Script) (start : Start) (e : editor.State) → chains_of_start script start ≡ [] →
+    Tells (states.start start.path start.min start.max (stated_of start.has)) e → Tells (begun script start) e
+unfolding knowing
+tells-begun script start e none h =
+    let s : State = states.start start.path start.min start.max (stated_of start.has) in
+    tells-told (sight_over script start) (knowing script start s) e
+    (subst (λ (chains : List ChainValue). Tells (began (version_of script start) (letters_of_chains script (landmarks_of chains)) (landmarks_of chains) s) e)
+    (sym none) (tells-began (version_of script start) script s e h))
+
 run-begins : StartIsExact → (script : Script) (start : Start) (o : Options) (answers : List Answer) →
     IsExactRun script start o answers →
-    Begins script.steps (begun start) o.path o answers
+    Begins script.steps (begun script start) o.path o answers
 run-begins begins script start o answers h =
     let few : (i : ℕ) (e : Ending) →
     stop_of (runs.start start.path (present o) (steps (front_of i script.steps) None) answers) ≡ Ends (Ok e) →
     e.lines ≤ most_lines = subst (λ (p : Option (List ℕ)). (i : ℕ) (e : Ending) → stop_of
     (runs.start p (present o) (steps (front_of i script.steps) None) answers) ≡ Ends (Ok e) → e.lines ≤ most_lines) h.path h.few in
     let from = from-start begins (stated_of start.has) script.steps start.path start.min o answers h.lines h.done h.enough few in
-    subst (λ (p : Option (List ℕ)). Begins script.steps (begun start) p o answers) (sym h.path)
+    let plain : State = states.start start.path start.min start.max (stated_of start.has) in
+    let b : Begins script.steps plain o.path o answers =
+    subst (λ (p : Option (List ℕ)). Begins script.steps plain p o answers) (sym h.path)
     (subst (λ (most : Option ℕ).
-    Begins script.steps (states.start start.path start.min most (stated_of start.has)) start.path o answers) (sym h.one) from)
+    Begins script.steps (states.start start.path start.min most (stated_of start.has)) start.path o answers) (sym h.one) from) in
+    record {
+      at = b.at;
+      later = b.later;
+      tells = tells-begun script start b.at.state h.unmarked b.tells;
+      done = b.done;
+      enough = b.enough;
+      few = b.few;
+      goes = b.goes;
+    }
 
 -- THE ANSWER
 
@@ -141,20 +173,20 @@ vouched low high t (Ends (Ok e)) l h d =
     )
 
 run-decided : Laws → (script : Script) (start : Start) (o : Options) (answers : List Answer) → are_exact script.steps ≡ true →
-    Begins script.steps (begun start) o.path o answers →
-    Decided (walked (sight_over script start) script.steps script.fault (begun start)) (stop_of (run script o answers))
+    Begins script.steps (begun script start) o.path o answers →
+    Decided (walked (sight_over script start) script.steps script.fault (begun script start)) (stop_of (run script o answers))
 run-decided k script start o answers e b =
     let w : Sight = sight_over script start in
-    subst (λ (z : Stop). Decided (walked w script.steps script.fault (begun start)) z) (sym (b.goes script.steps script.fault))
-    (decided k w script.steps script.fault (begun start) b.at b.later e b.tells b.done b.enough b.few)
+    subst (λ (z : Stop). Decided (walked w script.steps script.fault (begun script start)) z) (sym (b.goes script.steps script.fault))
+    (decided k w script.steps script.fault (begun script start) b.at b.later e b.tells b.done b.enough b.few)
 
 fails-there : Laws → (script : Script) (start : Start) (o : Options) (answers : List Answer) (place : Place) (why : Fault) →
     are_exact script.steps ≡ true →
-    Begins script.steps (begun start) o.path o answers →
+    Begins script.steps (begun script start) o.path o answers →
     (before : ℕ) → place ≡ record { command = suc before; inner = None } →
-    Falls (sight_over script start) script.steps script.fault (begun start) before why → FailsAt script o answers place why
+    Falls (sight_over script start) script.steps script.fault (begun script start) before why → FailsAt script o answers place why
 fails-there k script start o answers place why e b before number falls =
-    let s = stumbles k (sight_over script start) script.steps script.fault (begun start) b.at b.later before why e
+    let s = stumbles k (sight_over script start) script.steps script.fault (begun script start) b.at b.later before why e
     b.tells b.done b.enough b.few falls in
     record {
       before = before;
@@ -179,7 +211,7 @@ foretold k begins script start (Cannot place why notes) is o answers h =
     let b = run-begins begins script start o answers h in
     let f = failed-walk k.needs script start place why _ h.exact is in
     let d = subst (λ (r : Result State Fault). Decided r (stop_of (run script o answers)))
-    (falls-walk (sight_over script start) script.steps script.fault (begun start) f.0 why f.2)
+    (falls-walk (sight_over script start) script.steps script.fault (begun script start) f.0 why f.2)
     (run-decided k script start o answers h.exact b) in
     subst (λ (z : Stop). Foretells script o answers (Cannot place why notes) z)
     (sym (decided-fails why (stop_of (run script o answers)) d))

@@ -19,6 +19,7 @@ use Rattle.cert_check.specs.declared.certificate.Certificate.{Certificate}
 use Rattle.cert_check.specs.declared.checker.verdict.Place.{Place}
 use Rattle.analyser.specs.declared.analysis.Start.{Start}
 use Rattle.analyser.specs.declared.analysis.Analysis.TheVariants.{Vouched, Cannot}
+use Rattle.analyser.specs.Following.{do_count, chains_of_start}
 use Rattle.analyser.specs.Analysis.{most_lines}
 use Rattle.analyser.specs.Exactness.{up_to, IsExactRun, FailsAt, IsExactAnswer}
 
@@ -35,7 +36,7 @@ abbrev script : Script
 script = script_of (delete 1 ∷ bare (ed.WriteFile None) ∷ bare ed.Quit ∷ [])
 
 abbrev start : Start
-start = record { path = Some (codes "F"); min = 3; max = Some 3; has = None }
+start = record { path = Some (codes "F"); min = 3; max = Some 3; has = None; landmarks = None }
 
 abbrev options : Options
 options = record { silent = false; prompt = None; path = Some (codes "F") }
@@ -52,12 +53,17 @@ done-and more h = All-cons IsDone answer.Done more refl h
 few-by : (n : ℕ) (e : Ending) → n ≤ most_lines → Ends (Ok (record { lines = n })) ≡ Ends (Ok e) → e.lines ≤ most_lines
 few-by n e h is = let same : n ≡ e.lines = cc in omega arith
 
+no_landmarks : chains_of_start script start ≡ []
+unfolding do_count
+no_landmarks = refl
+
 pub exact_run : IsExactRun script start options answers
 exact_run = record {
   exact = refl;
   path = refl;
   lines = refl;
   one = refl;
+  unmarked = no_landmarks;
   done = done-and (answer.Done ∷ answer.Done ∷ []) (done-and (answer.Done ∷ []) (done-and [] (All-nil IsDone)));
   enough = omega arith;
   few = few;

@@ -130,9 +130,10 @@ tells-told_by version.One s e h =
     record { zone = h.zone; marks = h.marks; names = h.names; changed = h.changed; inside = h.inside; few = h.few }
 tells-told_by version.Two s e h =
     record { zone = h.zone; marks = h.marks; names = h.names; changed = h.changed; inside = h.inside; few = h.few }
-tells-told_by version.Three s e h = h
+tells-told_by version.Three s e h =
+    record { zone = h.zone; marks = h.marks; names = h.names; changed = h.changed; inside = h.inside; few = h.few }
 
-tells-told : (w : Sight) (s : State) (e : editor.State) → Tells s e → Tells (told w s) e
+pub tells-told : (w : Sight) (s : State) (e : editor.State) → Tells s e → Tells (told w s) e
 tells-told w s e h = tells-told_by w.version s e h
 
 -- THE STEPS

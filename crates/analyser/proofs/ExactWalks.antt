@@ -128,9 +128,9 @@ noted-comes same w (x ∷ xs) bad s (n ∷ ns) e h =
 -- A CERTIFICATE
 
 pub certified-walk : NeedsAreTheSame → (script : Script) (start : Start) (c : Certificate) → are_exact script.steps ≡ true → IsCertificate script start c →
-    walked (sight_over script start) script.steps script.fault (begun start) ≡ Ok c.last
+    walked (sight_over script start) script.steps script.fault (begun script start) ≡ Ok c.last
 certified-walk same script start c e h =
-    noted-comes same (sight_over script start) script.steps script.fault (begun start) c.notes e h.notes
+    noted-comes same (sight_over script start) script.steps script.fault (begun script start) c.notes e h.notes
     ∙ ap (λ (t : State). closes (has_quit script.steps) script.fault t)
     (sym h.last)
     ∙ (elim (has_quit script.steps) as (λ q. end_fault q script.fault c.last ≡ None →
@@ -222,9 +222,9 @@ end-falls same w why (x ∷ xs) bad s (n ∷ ns) e h k =
 pub failed-walk : NeedsAreTheSame → (script : Script) (start : Start) (place : Place) (why : Fault) (notes : List Note) → are_exact script.steps ≡ true →
     IsFailure script start place why notes →
     (before : ℕ) × (place ≡ record { command = suc before; inner = None })
-    × Falls (sight_over script start) script.steps script.fault (begun start) before why
+    × Falls (sight_over script start) script.steps script.fault (begun script start) before why
 failed-walk same script start place why notes e (inl h) =
-    let falls = fails-falls same (sight_over script start) place.inner why script.steps script.fault (begun start) notes e h.fails in (
+    let falls = fails-falls same (sight_over script start) place.inner why script.steps script.fault (begun script start) notes e h.fails in (
       falls.0,
       ap (λ (n : ℕ). record { command = n; inner = place.inner }) (h.number ∙ falls.1)
           ∙ ap (λ (i : Option ℕ). record { command = suc falls.0; inner = i }) falls.2,
@@ -233,5 +233,5 @@ failed-walk same script start place why notes e (inl h) =
 failed-walk same script start place why notes e (inr h) = (
   length notes,
   h.at_end ∙ ap (λ (n : ℕ). record { command = n; inner = None }) (omega arith),
-  end-falls same (sight_over script start) why script.steps script.fault (begun start) notes e h.noted h.fails,
+  end-falls same (sight_over script start) why script.steps script.fault (begun script start) notes e h.noted h.fails,
 )

@@ -13,6 +13,10 @@ pub mod Going
 pub mod PassedOn
 pub mod Unwanted
 pub mod Determined
+pub mod Knowing
+pub mod Followed
+pub mod InForm
+pub mod StartForming
 pub mod Telling
 pub mod Texting
 pub mod ExactWalks

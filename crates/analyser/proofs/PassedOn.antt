@@ -19,7 +19,7 @@ use Rattle.analyser.specs.declared.walk.End.{End}
 use Rattle.analyser.specs.declared.walk.End.TheVariants.{Leaves, Stops}
 use Rattle.analyser.specs.declared.walk.Outcome.TheVariants.{Left, Fails}
 use Rattle.analyser.specs.declared.passing.Passage.{Passage}
-use Rattle.analyser.specs.Following.{paths_from, sight_over, begun, end_fault, version_of, stated_of}
+use Rattle.analyser.specs.Following.{paths_from, sight_over, begun, end_fault, version_of, chains_of_start, stated_of}
 use Rattle.analyser.specs.Analysis.{low_of, high_of}
 use Rattle.analyser.specs.Judged.{IsVouched, FailsBy}
 use Rattle.analyser.specs.Walking.{with_paths, IsTaken}
@@ -92,11 +92,19 @@ pass-end w commands start i s left passage p none outcome count quit =
     } in
     rw outcome passes
 
+-- by another name of what it goes from
+pub passed-from : (w v : Sight) (commands others : List Command) (start begun : State) (passage : Passage) → w ≡ v → commands ≡ others →
+    start ≡ begun → IsPassage w (steps_value commands) start passage → IsPassage v (steps_value others) begun passage
+passed-from w v commands others start begun passage sight same begins h =
+    subst (λ (u : Sight). IsPassage u (steps_value others) begun passage) sight
+    (subst (λ (s : State). IsPassage w (steps_value others) s passage) begins
+    (subst (λ (cs : List Command). IsPassage w (steps_value cs) start passage) same h))
+
 -- THE JUDGEMENT, by what the commands came to
 
 -- with no fault at the end there is a certificate
 pub vouched-by : (script : Script) (start : Start) (count : ℕ) (quit : Bool) (last : State) (o : Option Fault) →
-    Passes (sight_over script start) script.steps (begun start) count quit last → o ≡ end_fault quit script.fault last → o ≡ None →
+    Passes (sight_over script start) script.steps (begun script start) count quit last → o ≡ end_fault quit script.fault last → o ≡ None →
     IsVouched script start
 vouched-by script start count quit last o p is none =
     let w = sight_over script start in
@@ -104,12 +112,12 @@ vouched-by script start count quit last o p is none =
     let ends : end_fault (has_quit script.steps) script.fault last ≡ None =
     sym (is ∙ ap (λ (b : Bool). end_fault b script.fault last) p.ends) ∙ none in
     let c : Certificate = record {
-      version = version_of start.has;
+      version = version_of script start;
       path = start.path;
       min = start.min;
       max = start.max;
       has = stated_of start.has;
-      landmarks = [];
+      landmarks = chains_of_start script start;
       notes = p.notes;
       last = last;
       low = low_of (least last.zone last_line name.zero);
@@ -135,12 +143,12 @@ vouched-by script start count quit last o p is none =
 
 -- a fault of a command
 pub fails-by : (script : Script) (start : Start) (place : Place) (why : Fault) →
-    passing.Stops (sight_over script start) script.steps (begun start) place why → FailsBy script start place why
+    passing.Stops (sight_over script start) script.steps (begun script start) place why → FailsBy script start place why
 fails-by script start place why s = (s.notes, inl (record { number = s.number; fails = s.fails }))
 
 -- a fault at the end
 pub fails-at_end : (script : Script) (start : Start) (count : ℕ) (quit : Bool) (last : State) (o : Option Fault) (place : Place) (why : Fault) →
-    Passes (sight_over script start) script.steps (begun start) count quit last → o ≡ end_fault quit script.fault last → o ≡ Some why →
+    Passes (sight_over script start) script.steps (begun script start) count quit last → o ≡ end_fault quit script.fault last → o ≡ Some why →
     place ≡ record { command = count + 1; inner = None } → FailsBy script start place why
 fails-at_end script start count quit last o place why p is some at =
     let w = sight_over script start in

@@ -1,5 +1,5 @@
 -- How often the invariant of the rounds of a list can still be weakened, and that this falls from each round to the next.
-use Rattle.std.proofs.Common.{pos, negsuc, ℤ, ◌≡◌, ◌≤◌, ◌<◌, ◌+◌, ◌*◌, ℕ, zero, suc, Bool, true, false, ◌||◌, ◌&&◌, List, [], ◌∷◌, ◌++◌, length, get_or, Option, None, Some, ◌⊎◌, inl, inr, refl, sym, subst, cond, arith}
+use Rattle.std.proofs.Common.{pos, negsuc, ℤ, ◌≡◌, ◌≤◌, ◌<◌, ◌+◌, ◌*◌, ℕ, zero, suc, Bool, true, false, ◌||◌, ◌&&◌, ◌==◌, List, [], ◌∷◌, ◌++◌, length, get_or, Option, None, Some, ◌⊎◌, inl, inr, refl, sym, subst, cond, arith}
 use Rattle.std.specs.Prelude.{nat_lt}
 use Rattle.std.specs.List.{list_all, filter}
 use Rattle.std.specs.Ordering.{is_eq, nat_cmp}
@@ -22,9 +22,10 @@ use Rattle.ed_rules.specs.Choices.{Choice, order_of, has_choice, union, are_choi
 use Rattle.ed_rules.specs.Marks.{is_sure, both_sure}
 use Rattle.ed_rules.specs.Texts.{is_member, are_members, both_texts}
 use Rattle.ed_rules.specs.KnownMatches.{old_has_of_both}
-use Rattle.ed_rules.specs.Order.{old_of_both, united, join, widen, CoversOld, Covers}
-use Rattle.ed_rules.specs.facts.Facts.{Facts}
-use Rattle.ed_rules.specs.facts.FactOrder.{says_line, says_clear, both_facts, cover_facts}
+use Rattle.ed_rules.specs.Order.{facts_of_both, old_of_both, united, join, widen, CoversOld, Covers}
+use Rattle.ed_rules.specs.Following.{may_name}
+use Rattle.ed_rules.specs.facts.Facts.{LineFact, Stretch, Facts, end}
+use Rattle.ed_rules.specs.facts.FactOrder.{says_line, says_clear, cover_facts}
 use Rattle.ed_rules.proofs.Choosing.{choice-itself, same-choices}
 use Rattle.ed_rules.proofs.Texting.{same-texts, text-itself, member-passes, members-both, members-both_other}
 use Rattle.cert_check.specs.checker.Covering.{zone_covers, allows, are_among, old_covers, old_has_covers, covers}
@@ -272,13 +273,24 @@ filter-length p (t ∷ set) =
       | false ↦ (omega arith, λ e. omega arith)
     ]
 
--- facts that the other side doesn't say are lost
-falls-facts : (one : Facts) (zone : Bounds) (other : Facts) →
-    Falls (cover_facts one zone other) (fact_room (both_facts one zone other)) (fact_room one)
-falls-facts one zone other =
-    let lines = filter-length (says_line zone other) one.lines in
+-- facts that the other side doesn't say are lost, and those of letters that aren't sure on both sides
+falls-facts : (marks : List Bool) (one : Facts) (zone : Bounds) (other : Facts) →
+    Falls (cover_facts one zone other) (fact_room (facts_of_both marks one zone other)) (fact_room one)
+falls-facts marks one zone other =
+    let said = filter-length (says_line zone other) one.lines in
+    let spoken = filter-length (λ (f : LineFact). may_name marks f.name) (filter (says_line zone other) one.lines) in
     let clear = filter-length (says_clear zone other) one.clear in
-    falls-and _ _ _ _ _ _ (record { no_more = lines.0; fewer = lines.1 }) (record { no_more = clear.0; fewer = clear.1 })
+    let spanned = filter-length (λ (s : Stretch). (s.after == end || may_name marks s.after) && (s.before == end || may_name marks s.before))
+    (filter (says_clear zone other) one.clear) in
+    falls-and _ _ _ _ _ _
+    (record { no_more = through spoken.0 said.0; fewer = λ e. below spoken.0 (said.1 e) })
+    (record { no_more = through spanned.0 clear.0; fewer = λ e. below spanned.0 (clear.1 e) })
+  where
+    through : {a b c : ℕ} → a ≤ b → b ≤ c → a ≤ c
+    through h k = omega arith
+
+    below : {a b c : ℕ} → a ≤ b → b < c → a < c
+    below h k = omega arith
 
 falls-old : (one other : Option Old) → OldIsZone one → OldIsZone other → CoversOld (old_of_both one other) one →
     CoversOld (old_of_both one other) other → Falls (old_covers one other) (old_room (old_of_both one other)) (old_room one)
@@ -288,7 +300,7 @@ falls-old None (Some other) h k c d = let f = old-most other k.0 k.1 in record {
 falls-old (Some one) (Some other) h k c d =
     falls-and _ _ _ _ _ _
     (falls-zone one.zone other.zone (join_of one.zone other.zone) h.0 (IsZone-join_of one.zone other.zone h.0 k.0) c.0 d.0)
-    (falls-and _ _ _ _ _ _ (falls-marks one.marks other.marks) (falls-facts one.facts other.zone other.facts))
+    (falls-and _ _ _ _ _ _ (falls-marks one.marks other.marks) (falls-facts (both_sure one.marks other.marks) one.facts other.zone other.facts))
 
 -- TEXTS
 
@@ -421,7 +433,7 @@ module _ (patterns names : List Choice) (texts : List (List ℕ)) where
       (falls-and _ _ _ _ _ _
       (falls-and _ _ _ _ _ _ (falls-has one.matches.has other.matches.has)
       (falls-old_has texts one.undo.was other.undo.was one.matches.old_has other.matches.old_has o))
-      (falls-facts one.facts other.zone other.facts))))))))
+      (falls-facts (both_sure one.marks other.marks) one.facts other.zone other.facts))))))))
 
   falls-join : Laws → (one other : State) → HasZones one → HasZones other → are_choices other.patterns patterns ≡ true →
       are_choices other.names names ≡ true → are_members one.matches.old_has texts ≡ true →

@@ -12,26 +12,33 @@ use Rattle.ed_rules.specs.declared.state.State.{State}
 use Rattle.ed_rules.specs.Choices.{Choice}
 use Rattle.ed_rules.specs.Matched.{watched}
 use Rattle.ed_rules.specs.States as states
+use Rattle.ed_rules.specs.Marks.{both_sure}
 use Rattle.ed_rules.specs.KnownMatches.{no_matches, matches_of_both}
 use Rattle.ed_rules.specs.Order.{old_of_both, united, join, widen}
 use Rattle.ed_rules.specs.States.{old_without_facts, without_facts}
 use Rattle.ed_rules.specs.facts.Facts.{Facts, no_facts}
-use Rattle.ed_rules.specs.facts.FactOrder.{both_facts}
 use Rattle.zones.specs.Zone.{Bounds}
 use Rattle.zones.specs.Steps.{join_of, widening_of}
 use Rattle.ed_rules.specs.Rules.{step}
 use Rattle.ed_rules.specs.Globals.{body_entry, loop_end}
 use Rattle.ed_rules.specs.Formed.{ChoiceIsBytes, OldIsFormed, OldIsLow, IsOfLines, IsFormed, IsEnded, TextsAreFormed, MatchesAreFormed, VerbIsBytes, TextsAreBytes}
+use Rattle.ed_rules.proofs.through.Needs.{anyway}
+use Rattle.landmarks.specs.declared.landmark.Landmark.{Landmark}
 use Rattle.cert_check.specs.declared.certificate.Version.{Version}
 use Rattle.cert_check.specs.declared.certificate.Version.TheVariants as version
 use Rattle.cert_check.specs.declared.sight.Sight.{Sight}
 use Rattle.cert_check.specs.Certificates.{Looped, Note}
+use Rattle.cert_check.specs.checker.Beginning.{landmarks_of, letters_of_chains, began}
+use Rattle.cert_check.specs.checker.InForm.{old_in_form, state_in_form}
 use Rattle.cert_check.specs.checker.Valid.{sight_of, told_by, told, counted, left_by, left_after}
 use Rattle.analyser.specs.declared.analysis.Start.{Start}
 use Rattle.analyser.specs.Rounds.{left_by_list, AreInner, entered, turned, round_invariant}
-use Rattle.analyser.specs.Following.{IsKnownOfList, AreNotes, result_from, version_of, stated_of, sight_over, begun}
+use Rattle.analyser.specs.Following.{IsKnownOfList, AreNotes, result_from, version_of, chains_of_start, stated_of, sight_over, knowing, begun}
 use Rattle.analyser.specs.Walking.{StepIsBytes}
 use Rattle.analyser.proofs.Results.{either}
+use Rattle.analyser.proofs.Followed.{follows-step}
+use Rattle.analyser.proofs.InForm.{AreInForm, OldIsInForm, told-in_form, both-in_form}
+use Rattle.analyser.proofs.StartForming.{ended-left}
 
 -- the laws that this rests on
 pub record Laws : Type 0 where
@@ -95,10 +102,46 @@ formed-less s m h = record {
   old_low = low-without s.undo.was h.old_low;
 }
 
+-- with its facts in form
+some-in_form : (was : Option Old) → is_some (old_in_form was) ≡ is_some was
+some-in_form None = refl
+some-in_form (Some old) = refl
+
+formed-old_in_form : (was : Option Old) → OldIsFormed was → OldIsFormed (old_in_form was)
+formed-old_in_form None h = h
+formed-old_in_form (Some old) h = h
+
+low-in_form : (was : Option Old) → OldIsLow was → OldIsLow (old_in_form was)
+low-in_form None h = h
+low-in_form (Some old) h = h
+
+lines-in_form : (was : Option Old) (has : List (List ℕ)) → IsOfLines was has → IsOfLines (old_in_form was) has
+lines-in_form None has h = h
+lines-in_form (Some old) has h = h
+
+old-told_in_form : (was : Option Old) → OldIsInForm (old_in_form was)
+old-told_in_form None = tt
+old-told_in_form (Some old) = told-in_form old.marks old.facts
+
+formed-in_form : (s : State) → IsFormed s → IsFormed (state_in_form s)
+formed-in_form s h = record {
+  formed = record {
+    zone = h.formed.zone;
+    patterns = h.formed.patterns;
+    replacements = h.formed.replacements;
+    names = h.formed.names;
+    changed = h.formed.changed;
+    undo = ap (λ (b : Bool). s.undo.nothing || s.undo.same || b) (some-in_form s.undo.was) ∙ h.formed.undo;
+    old = formed-old_in_form s.undo.was h.formed.old;
+  };
+  low = h.low;
+  old_low = low-in_form s.undo.was h.old_low;
+}
+
 formed-told_by : (v : Version) (s : State) → IsFormed s → IsFormed (told_by v s)
 formed-told_by version.One s h = formed-less s no_matches h
 formed-told_by version.Two s h = formed-less s s.matches h
-formed-told_by version.Three s h = h
+formed-told_by version.Three s h = formed-in_form s h
 
 formed-told : (w : Sight) (s : State) → IsFormed s → IsFormed (told w s)
 formed-told w s h = formed-told_by w.version s h
@@ -106,7 +149,7 @@ formed-told w s h = formed-told_by w.version s h
 ended-told_by : (v : Version) (s : State) → IsEnded s → IsEnded (told_by v s)
 ended-told_by version.One s h = record { formed = formed-told_by version.One s h.formed; counted = h.counted }
 ended-told_by version.Two s h = record { formed = formed-told_by version.Two s h.formed; counted = h.counted }
-ended-told_by version.Three s h = h
+ended-told_by version.Three s h = record { formed = formed-told_by version.Three s h.formed; counted = h.counted }
 
 ended-told : (w : Sight) (s : State) → IsEnded s → IsEnded (told w s)
 ended-told w s h = ended-told_by w.version s h
@@ -123,45 +166,93 @@ pub record SaysNothing (s : State) : Type 0 where
   pub facts : s.facts ≡ no_facts
   pub old_facts : OldSaysNothing s.undo.was
 
--- so it is before version three, of which nothing is asked here
-abbrev pub SaysNothingIn : Version → State → Type 0
-SaysNothingIn version.One s = SaysNothing s
-SaysNothingIn version.Two s = SaysNothing s
-SaysNothingIn version.Three s = Unit {0}
+-- single lines are followed, and what is said of them is in form
+pub record SaysInForm (s : State) : Type 0 where
+  pub follows : s.follows ≡ true
+  pub facts : AreInForm s.marks s.facts
+  pub old_facts : OldIsInForm s.undo.was
 
-nothing-told_by : (v : Version) (s : State) → SaysNothingIn v (told_by v s)
-nothing-told_by version.One s = record { follows = refl; facts = refl; old_facts = nothing-without s.undo.was }
-nothing-told_by version.Two s = record { follows = refl; facts = refl; old_facts = nothing-without s.undo.was }
-nothing-told_by version.Three s = tt
+-- which of these it is a version tells
+abbrev pub LinesAreTold : Version → State → Type 0
+LinesAreTold version.One s = SaysNothing s
+LinesAreTold version.Two s = SaysNothing s
+LinesAreTold version.Three s = SaysInForm s
 
-nothing-told : (w : Sight) (s : State) → SaysNothingIn w.version (told w s)
-nothing-told w s = nothing-told_by w.version s
+-- what is asked of a state before it is told
+abbrev pub MayFollow : Version → State → Type 0
+MayFollow version.One s = Unit {0}
+MayFollow version.Two s = Unit {0}
+MayFollow version.Three s = s.follows ≡ true
+
+lines-told_by : (v : Version) (s : State) → MayFollow v s → LinesAreTold v (told_by v s)
+lines-told_by version.One s h = record { follows = refl; facts = refl; old_facts = nothing-without s.undo.was }
+lines-told_by version.Two s h = record { follows = refl; facts = refl; old_facts = nothing-without s.undo.was }
+lines-told_by version.Three s h = record { follows = h; facts = told-in_form s.marks s.facts; old_facts = old-told_in_form s.undo.was }
+
+lines-told : (w : Sight) (s : State) → MayFollow w.version s → LinesAreTold w.version (told w s)
+lines-told w s h = lines-told_by w.version s h
+
+may-follow : (v : Version) (s : State) → LinesAreTold v s → MayFollow v s
+may-follow version.One s h = tt
+may-follow version.Two s h = tt
+may-follow version.Three s h = h.follows
+
+follow-step : (v : Version) (watch : List (List ℕ)) (c : Command) (s : State) → MayFollow v s → IfOk (step watch c s) (MayFollow v)
+follow-step version.One watch c s h = anyway (MayFollow version.One) (step watch c s) (λ t. tt)
+follow-step version.Two watch c s h = anyway (MayFollow version.Two) (step watch c s) (λ t. tt)
+follow-step version.Three watch c s h = follows-step true watch c s h
+
+follow-entry : (v : Version) (verb : Verb) (invariant : State) → MayFollow v invariant → MayFollow v (body_entry verb invariant)
+follow-entry version.One verb invariant h = tt
+follow-entry version.Two verb invariant h = tt
+follow-entry version.Three verb invariant h = h
+
+follow-end : (v : Version) (x : Step) (before invariant : State) → MayFollow v invariant → MayFollow v (loop_end x before invariant)
+follow-end version.One x before invariant h = tt
+follow-end version.Two x before invariant h = tt
+follow-end version.Three x before invariant h = h
+
+abbrev facts_in : Option Old → Facts
+facts_in None = no_facts
+facts_in (Some old) = old.facts
 
 old-nothing : (one other : Option Old) → OldSaysNothing one → OldSaysNothing other → OldSaysNothing (old_of_both one other)
 old-nothing None other h k = k
 old-nothing (Some one) None h k = h
-old-nothing (Some one) (Some other) h k = ap (λ (f : Facts). both_facts f other.zone other.facts) h
+old-nothing (Some one) (Some other) h k = ap (λ (f : Facts). facts_in (old_of_both (Some (record one { facts = f })) (Some other))) h
 
 nothing-united : (one other : State) (zone : Bounds) → SaysNothing one → SaysNothing other → SaysNothing (united one other zone)
 nothing-united one other zone h k = record {
   follows = h.follows;
-  facts = ap (λ (f : Facts). both_facts f other.zone other.facts) h.facts;
+  facts = ap (λ (f : Facts). (united (record one { facts = f }) other zone).facts) h.facts;
   old_facts = old-nothing one.undo.was other.undo.was h.old_facts k.old_facts;
 }
 
-nothing-united_in : (v : Version) (one other : State) (zone : Bounds) → SaysNothingIn v one → SaysNothingIn v other →
-    SaysNothingIn v (united one other zone)
-nothing-united_in version.One one other zone h k = nothing-united one other zone h k
-nothing-united_in version.Two one other zone h k = nothing-united one other zone h k
-nothing-united_in version.Three one other zone h k = tt
+old-in_form : (one other : Option Old) → OldIsInForm one → OldIsInForm other → OldIsInForm (old_of_both one other)
+old-in_form None other h k = k
+old-in_form (Some one) None h k = h
+old-in_form (Some one) (Some other) h k = both-in_form one.marks (both_sure one.marks other.marks) one.facts other.zone other.facts h
 
-nothing-join : (v : Version) (one other : State) → SaysNothingIn v one → SaysNothingIn v other → SaysNothingIn v (join one other)
+in_form-united : (one other : State) (zone : Bounds) → SaysInForm one → SaysInForm other → SaysInForm (united one other zone)
+in_form-united one other zone h k = record {
+  follows = h.follows;
+  facts = both-in_form one.marks (both_sure one.marks other.marks) one.facts other.zone other.facts h.facts;
+  old_facts = old-in_form one.undo.was other.undo.was h.old_facts k.old_facts;
+}
+
+lines-united : (v : Version) (one other : State) (zone : Bounds) → LinesAreTold v one → LinesAreTold v other →
+    LinesAreTold v (united one other zone)
+lines-united version.One one other zone h k = nothing-united one other zone h k
+lines-united version.Two one other zone h k = nothing-united one other zone h k
+lines-united version.Three one other zone h k = in_form-united one other zone h k
+
+lines-join : (v : Version) (one other : State) → LinesAreTold v one → LinesAreTold v other → LinesAreTold v (join one other)
 unfolding join
-nothing-join v one other h k = nothing-united_in v one other (join_of one.zone other.zone) h k
+lines-join v one other h k = lines-united v one other (join_of one.zone other.zone) h k
 
-nothing-widen : (v : Version) (one other : State) → SaysNothingIn v one → SaysNothingIn v other → SaysNothingIn v (widen one other)
+lines-widen : (v : Version) (one other : State) → LinesAreTold v one → LinesAreTold v other → LinesAreTold v (widen one other)
 unfolding widen
-nothing-widen v one other h k = nothing-united_in v one other (widening_of one.zone other.zone) h k
+lines-widen v one other h k = lines-united v one other (widening_of one.zone other.zone) h k
 
 -- what is asked of a result before it is told
 abbrev MayBeTold : Version → State → Type 0
@@ -177,7 +268,7 @@ WatchIsFormed version.Three watch = TextsAreFormed watch
 says-told : (v : Version) (s : State) → MayBeTold v s → SaysAsTold v (told_by v s)
 says-told version.One s h = refl
 says-told version.Two s h = record { has = h.has; old_has = h.old_has; of_lines = lines-without s.undo.was s.matches.old_has h.of_lines }
-says-told version.Three s h = h
+says-told version.Three s h = record { has = h.has; old_has = h.old_has; of_lines = lines-in_form s.undo.was s.matches.old_has h.of_lines }
 
 may-told : (v : Version) (s : State) → SaysAsTold v s → MayBeTold v s
 may-told version.One s h = tt
@@ -229,15 +320,15 @@ may-end k version.Three x before invariant h q = k.end x before invariant h q
 pub record Holds (v : Version) (s : State) : Type 0 where
   pub formed : IsFormed s
   pub says : SaysAsTold v s
-  pub nothing : SaysNothingIn v s
+  pub lines : LinesAreTold v s
 
 pub record HoldsAtEnd (v : Version) (s : State) : Type 0 where
   pub ended : IsEnded s
   pub says : SaysAsTold v s
-  pub nothing : SaysNothingIn v s
+  pub lines : LinesAreTold v s
 
 holds-at_end : (v : Version) (s : State) → HoldsAtEnd v s → Holds v s
-holds-at_end v s h = record { formed = h.ended.formed; says = h.says; nothing = h.nothing }
+holds-at_end v s h = record { formed = h.ended.formed; says = h.says; lines = h.lines }
 
 -- of what is known of a list, and of a note
 abbrev pub LoopedHolds : Version → Option Looped → Type 0
@@ -251,30 +342,34 @@ module _ (k : Laws) (m : MatchLaws) (w : Sight) (watch : WatchIsFormed w.version
   -- LISTS
 
   left-holds : (s : State) (r : Result State Fault) → Holds w.version s → IfOk r IsEnded → IfOk r (MayBeTold w.version) →
-      Holds w.version (told w (elim r as (λ _. State) [ Ok t ↦ t | Err f ↦ s ]))
-  left-holds s (Ok t) h q r = record { formed = formed-told w t q.formed; says = says-told w.version t r; nothing = nothing-told w t }
-  left-holds s (Err f) h q r = record {
+      IfOk r (MayFollow w.version) → Holds w.version (told w (elim r as (λ _. State) [ Ok t ↦ t | Err f ↦ s ]))
+  left-holds s (Ok t) h q r f = record { formed = formed-told w t q.formed; says = says-told w.version t r; lines = lines-told w t f }
+  left-holds s (Err fault) h q r f = record {
     formed = formed-told w s h.formed;
     says = says-told w.version s (may-told w.version s h.says);
-    nothing = nothing-told w s;
+    lines = lines-told w s (may-follow w.version s h.lines);
   }
 
   step-holds : (c : Command) (s : State) → TextsAreBytes c → Holds w.version s → Holds w.version (left_by w c s)
   unfolding left_by
-  step-holds c s b h = left-holds s (step w.watch c s) h (k.command w.watch c s b h.formed) (may-step m w.version w.watch c s watch h.says)
+  step-holds c s b h =
+      left-holds s (step w.watch c s) h (k.command w.watch c s b h.formed) (may-step m w.version w.watch c s watch h.says)
+      (follow-step w.version w.watch c s (may-follow w.version s h.lines))
 
   left-ends : (s : State) (r : Result State Fault) → HoldsAtEnd w.version s → IfOk r IsEnded → IfOk r (MayBeTold w.version) →
-      HoldsAtEnd w.version (told w (elim r as (λ _. State) [ Ok t ↦ t | Err f ↦ s ]))
-  left-ends s (Ok t) h q r = record { ended = ended-told w t q; says = says-told w.version t r; nothing = nothing-told w t }
-  left-ends s (Err f) h q r = record {
+      IfOk r (MayFollow w.version) → HoldsAtEnd w.version (told w (elim r as (λ _. State) [ Ok t ↦ t | Err f ↦ s ]))
+  left-ends s (Ok t) h q r f = record { ended = ended-told w t q; says = says-told w.version t r; lines = lines-told w t f }
+  left-ends s (Err fault) h q r f = record {
     ended = ended-told w s h.ended;
     says = says-told w.version s (may-told w.version s h.says);
-    nothing = nothing-told w s;
+    lines = lines-told w s (may-follow w.version s h.lines);
   }
 
   step-ends : (c : Command) (s : State) → TextsAreBytes c → HoldsAtEnd w.version s → HoldsAtEnd w.version (left_by w c s)
   unfolding left_by
-  step-ends c s b h = left-ends s (step w.watch c s) h (k.command w.watch c s b h.ended.formed) (may-step m w.version w.watch c s watch h.says)
+  step-ends c s b h =
+      left-ends s (step w.watch c s) h (k.command w.watch c s b h.ended.formed) (may-step m w.version w.watch c s watch h.says)
+      (follow-step w.version w.watch c s (may-follow w.version s h.lines))
 
   list-holds : (cs : List Command) (s : State) → All TextsAreBytes cs → Holds w.version s → Holds w.version (left_by_list w cs s)
   list-holds [] s b h = h
@@ -286,7 +381,7 @@ module _ (k : Laws) (m : MatchLaws) (w : Sight) (watch : WatchIsFormed w.version
       record {
         formed = formed-told w entry (k.entry x.command.verb invariant h.formed).formed;
         says = says-told w.version entry (may-entry m w.version x.command.verb invariant b.0.1 h.says);
-        nothing = nothing-told w entry;
+        lines = lines-told w entry (follow-entry w.version x.command.verb invariant (may-follow w.version invariant h.lines));
       }
 
   round-holds : (x : Step) (first : State) (n : ℕ) → StepIsBytes x → Holds w.version first → Holds w.version (round_invariant w x first n)
@@ -299,12 +394,12 @@ module _ (k : Laws) (m : MatchLaws) (w : Sight) (watch : WatchIsFormed w.version
       (record {
         formed = k.join _ _ before.formed after.formed;
         says = says-join m w.version _ _ before.says after.says;
-        nothing = nothing-join w.version _ _ before.nothing after.nothing;
+        lines = lines-join w.version _ _ before.lines after.lines;
       })
       (record {
         formed = k.widen _ _ before.formed after.formed;
         says = says-widen m w.version _ _ before.says after.says;
-        nothing = nothing-widen w.version _ _ before.nothing after.nothing;
+        lines = lines-widen w.version _ _ before.lines after.lines;
       })
 
   inner-hold : (cs : List Command) (s : State) (ts : List State) → All TextsAreBytes cs → Holds w.version s → AreInner w cs s ts → All (Holds w.version) ts
@@ -321,7 +416,7 @@ module _ (k : Laws) (m : MatchLaws) (w : Sight) (watch : WatchIsFormed w.version
   end-holds x s invariant h q = record {
     ended = ended-told w (loop_end x s invariant) (k.end x s invariant h.ended.formed q.formed);
     says = says-told w.version (loop_end x s invariant) (may-end m w.version x s invariant h.says q.says);
-    nothing = nothing-told w (loop_end x s invariant);
+    lines = lines-told w (loop_end x s invariant) (follow-end w.version x s invariant (may-follow w.version invariant q.lines));
   }
 
   after-holds : (global : Bool) (x : Step) (s : State) (l : Option Looped) → StepIsBytes x → HoldsAtEnd w.version s → IsKnownOfList w global x s l →
@@ -357,39 +452,56 @@ counted-bytes (x ∷ xs) b = counted-if (ends_run x.command.verb) x xs (All-head
 
 -- A SCRIPT
 
-pub sight-version : (script : Script) (has : Option (List (List ℕ))) → (sight_of script (version_of has) (stated_of has)).version ≡ version_of has
-sight-version script None = refl
-sight-version script (Some has) = refl
+pub sight-version : (script : Script) (v : Version) (has : List (List ℕ)) → (sight_of script v has).version ≡ v
+sight-version script version.One has = refl
+sight-version script version.Two has = refl
+sight-version script version.Three has = refl
 
-begun-says : MatchLaws → (has : Option (List (List ℕ))) (path : Choice) (min : ℕ) (max : Option ℕ) → TextsAreFormed (stated_of has) → SaysAsTold (version_of has) (states.start path min max (stated_of has))
-unfolding states.start
-begun-says k None path min max h = refl
-begun-says k (Some has) path min max h = k.start path min max has h
+watch-formed : MatchLaws → (script : Script) (v : Version) (has : List (List ℕ)) → All StepIsBytes script.steps → TextsAreFormed has →
+    WatchIsFormed (sight_of script v has).version (sight_of script v has).watch
+watch-formed k script version.One has b h = tt
+watch-formed k script version.Two has b h = k.watched script has b h
+watch-formed k script version.Three has b h = k.watched script has b h
 
-begun-nothing : (has : Option (List (List ℕ))) (path : Choice) (min : ℕ) (max : Option ℕ) →
-    SaysNothingIn (version_of has) (states.start path min max (stated_of has))
-unfolding states.start
-begun-nothing None path min max = record { follows = refl; facts = refl; old_facts = tt }
-begun-nothing (Some has) path min max = record { follows = refl; facts = refl; old_facts = tt }
+-- what is known of landmarks says nothing of matches, and follows their lines
+may-began : (v : Version) (letters : List ℕ) (chains : List (List Landmark)) (s : State) → MatchesAreFormed s →
+    MayBeTold v (began v letters chains s)
+may-began version.One letters chains s h = tt
+may-began version.Two letters chains s h = h
+may-began version.Three letters chains s h = record { has = h.has; old_has = h.old_has; of_lines = h.of_lines }
 
-watch-formed : MatchLaws → (script : Script) (has : Option (List (List ℕ))) → All StepIsBytes script.steps → TextsAreFormed (stated_of has) →
-    WatchIsFormed (sight_of script (version_of has) (stated_of has)).version (sight_of script (version_of has) (stated_of has)).watch
-watch-formed k script None b h = tt
-watch-formed k script (Some has) b h = k.watched script has b h
+follow-began : (v : Version) (letters : List ℕ) (chains : List (List Landmark)) (s : State) → MayFollow v (began v letters chains s)
+follow-began version.One letters chains s = tt
+follow-began version.Two letters chains s = tt
+follow-began version.Three letters chains s = refl
+
+begun-holds : Laws → MatchLaws → (script : Script) (start : Start) → ChoiceIsBytes start.path → TextsAreFormed (stated_of start.has) →
+    HoldsAtEnd (version_of script start) (told_by (version_of script start)
+    (knowing script start (states.start start.path start.min start.max (stated_of start.has))))
+unfolding knowing
+begun-holds k m script start path has =
+    let v : Version = version_of script start in
+    let chains : List (List Landmark) = landmarks_of (chains_of_start script start) in
+    let letters : List ℕ = letters_of_chains script chains in
+    let s : State = states.start start.path start.min start.max (stated_of start.has) in
+    let t : State = began v letters chains s in
+    record {
+      ended = ended-told_by v t (ended-left v script chains s (k.start start.path start.min start.max (stated_of start.has) path));
+      says = says-told v t (may-began v letters chains s (m.start start.path start.min start.max (stated_of start.has) has));
+      lines = lines-told_by v t (follow-began v letters chains s);
+    }
 
 -- so it is of the notes of a script, and at its end it is known that there are at least 0 lines
 pub script-holds : Laws → MatchLaws → (script : Script) (start : Start) (notes : List Note) → All StepIsBytes script.steps → ChoiceIsBytes start.path → TextsAreFormed (stated_of start.has) →
-    AreNotes (sight_over script start) (counted script.steps) (begun start) notes →
-    All (NoteHolds (version_of start.has)) notes × HoldsAtEnd (version_of start.has) (result_from (sight_over script start) (counted script.steps) (begun start) notes)
+    AreNotes (sight_over script start) (counted script.steps) (begun script start) notes →
+    All (NoteHolds (version_of script start)) notes × HoldsAtEnd (version_of script start) (result_from (sight_over script start) (counted script.steps) (begun script start) notes)
 script-holds k m script start notes bytes path has h =
+    let v : Version = version_of script start in
     let w : Sight = sight_over script start in
-    let same : w.version ≡ version_of start.has = sight-version script start.has in
-    let begins : HoldsAtEnd (version_of start.has) (begun start) =
-    record {
-      ended = k.start start.path start.min start.max (stated_of start.has) path;
-      says = begun-says m start.has start.path start.min start.max has;
-      nothing = begun-nothing start.has start.path start.min start.max;
-    } in
-    subst (λ (v : Version). All (NoteHolds v) notes × HoldsAtEnd v (result_from w (counted script.steps) (begun start) notes)) same
-    (notes-hold k m w (watch-formed m script start.has bytes has) (counted script.steps) (begun start) notes (counted-bytes script.steps bytes)
-    (subst (λ (v : Version). HoldsAtEnd v (begun start)) (sym same) begins) h)
+    let same : w.version ≡ v = sight-version script v (stated_of start.has) in
+    let s : State = knowing script start (states.start start.path start.min start.max (stated_of start.has)) in
+    let begins : HoldsAtEnd w.version (begun script start) =
+    subst (λ (u : Version). HoldsAtEnd u (told_by u s)) (sym same) (begun-holds k m script start path has) in
+    subst (λ (u : Version). All (NoteHolds u) notes × HoldsAtEnd u (result_from w (counted script.steps) (begun script start) notes)) same
+    (notes-hold k m w (watch-formed m script v (stated_of start.has) bytes has) (counted script.steps) (begun script start) notes
+    (counted-bytes script.steps bytes) begins h)

@@ -1,5 +1,5 @@
 -- What is vouched for has a text.
-use Rattle.std.proofs.Common.{◌≡◌, ◌≤◌, ℕ, ℤ, pos, negsuc, true, false, cond, ◌&&◌, List, [], ◌∷◌, map, Option, None, Some, refl, sym, subst, arith}
+use Rattle.std.proofs.Common.{◌≡◌, ◌≤◌, ℕ, ℤ, pos, negsuc, Bool, true, false, cond, ◌&&◌, List, [], ◌∷◌, map, Option, None, Some, refl, sym, subst, arith}
 use Rattle.std.specs.Prelude.{nat_lt, min, IfSome}
 use Rattle.std.specs.List.{All}
 use Rattle.std.specs.List.Sorted.{IsStrictlySortedBy}
@@ -17,16 +17,20 @@ use Rattle.ed_rules.specs.Choices.{Choice}
 use Rattle.ed_rules.specs.Texts.{are_rising}
 use Rattle.ed_rules.specs.KnownMatches.{no_matches}
 use Rattle.ed_rules.specs.Formed.{ChoiceIsBytes, TextsAreFormed, IsOfLines}
+use Rattle.ed_rules.specs.facts.Facts.{LineFact, Stretch, Facts}
 use Rattle.ed_rules.specs.LineBounds.{IsAtMost, is_few, is_limit, is_within}
 use Rattle.cert_check.specs.declared.certificate.Version.{Version}
 use Rattle.cert_check.specs.declared.certificate.Version.TheVariants as version
 use Rattle.cert_check.specs.Certificates.{Looped, Note, Certificate}
 use Rattle.landmarks.specs.ChainValues.{ChainValue}
-use Rattle.cert_check.specs.text.HasText.{IsSaidIn, OldIsSaidIn, AreSaidIn, OldIsToldIn, does_follow, StateHasText, ChainsHaveText, LoopedHasText, NoteHasText, HasText}
+use Rattle.cert_check.specs.text.HasText.{IsSaidIn, OldIsSaidIn, AreSaidIn, OldIsToldIn, does_follow, StateHasText, ChainHasText, ChainsHaveText, LoopedHasText, NoteHasText, HasText}
+use Rattle.cert_check.specs.checker.InForm.{HaveBytes}
+use Rattle.cert_check.specs.text.FactsText.{AreBytes, FactIsFormed, StretchIsFormed, FactsAreFormed}
 use Rattle.analyser.specs.declared.analysis.Start.{Start}
-use Rattle.analyser.specs.Following.{version_of, stated_of}
+use Rattle.analyser.specs.Following.{do_count, version_by, version_of, chains_by, stated_of}
 use Rattle.analyser.specs.Analysis.{most_lines, low_of, high_of, IsCertificate}
-use Rattle.analyser.specs.Walking.{StepIsBytes}
+use Rattle.analyser.specs.Walking.{OldIsBytes, StateIsBytes, LoopedIsBytes, NoteIsBytes, StepIsBytes}
+use Rattle.analyser.proofs.InForm.{IsPlaced, IsSpanned, AreInForm, OldIsInForm}
 use Rattle.analyser.proofs.Telling.{OldSaysNothing, Laws, MatchLaws, Holds, LoopedHolds, NoteHolds, script-holds}
 
 -- BOUNDS AND PATHS
@@ -71,6 +75,10 @@ old-said : (was : Option Old) (has : List (List ℕ)) → TextsAreFormed has →
 old-said None has h lines = lines
 old-said (Some old) has h lines = h
 
+old-said_in_three : (was : Option Old) (has : List (List ℕ)) → TextsAreFormed has → IsOfLines was has → OldIsSaidIn version.Three was has
+old-said_in_three None has h lines = lines
+old-said_in_three (Some old) has h lines = h
+
 old-untold_in_one : (was : Option Old) → OldSaysNothing was → OldIsToldIn version.One was
 old-untold_in_one None h = tt
 old-untold_in_one (Some old) h = h
@@ -79,63 +87,114 @@ old-untold_in_two : (was : Option Old) → OldSaysNothing was → OldIsToldIn ve
 old-untold_in_two None h = tt
 old-untold_in_two (Some old) h = h
 
--- versions before the third say nothing of single lines
-text-of_state : (v : Version) → does_follow v ≡ false → (s : State) → Holds v s → StateHasText v s
-text-of_state version.One early s h = record {
+-- WHAT IS SAID OF SINGLE LINES
+
+facts-formed : (marks : List Bool) (facts : Facts) → AreInForm marks facts → HaveBytes facts → FactsAreFormed marks facts
+facts-formed marks facts h b = record {
+  known = record { each = facts-each facts.lines h.each_line b.lines; rising = h.lines_rise };
+  clear = record { each = clear-each facts.clear h.each_clear b.clear; rising = h.clear_rises };
+}
+  where
+    facts-each : (fs : List LineFact) → All (IsPlaced marks) fs → All (λ (f : LineFact). AreBytes f.pattern) fs → All (FactIsFormed marks) fs
+    facts-each [] h b = All-nil (FactIsFormed marks)
+    facts-each (f ∷ fs) h b =
+        All-cons (FactIsFormed marks) f fs
+        (record { named = All-head (IsPlaced marks) f fs h; bytes = All-head (λ (g : LineFact). AreBytes g.pattern) f fs b })
+        (facts-each fs (All-tail (IsPlaced marks) f fs h) (All-tail (λ (g : LineFact). AreBytes g.pattern) f fs b))
+
+    clear-each : (ss : List Stretch) → All (IsSpanned marks) ss → All (λ (s : Stretch). AreBytes s.pattern) ss → All (StretchIsFormed marks) ss
+    clear-each [] h b = All-nil (StretchIsFormed marks)
+    clear-each (s ∷ ss) h b =
+        let here = All-head (IsSpanned marks) s ss h in
+        All-cons (StretchIsFormed marks) s ss
+        (record { after = here.after; before = here.before; apart = here.apart; bytes = All-head (λ (t : Stretch). AreBytes t.pattern) s ss b })
+        (clear-each ss (All-tail (IsSpanned marks) s ss h) (All-tail (λ (t : Stretch). AreBytes t.pattern) s ss b))
+
+old-formed : (was : Option Old) → OldIsInForm was → OldIsBytes was → OldIsToldIn version.Three was
+old-formed None h b = tt
+old-formed (Some old) h b = facts-formed old.marks old.facts h b
+
+-- from the third version on something is said of single lines
+abbrev BytesIn : Version → State → Type 0
+BytesIn v s = does_follow v ≡ true → StateIsBytes s
+
+text-of_state : (v : Version) (s : State) → BytesIn v s → Holds v s → StateHasText v s
+text-of_state version.One s b h = record {
   formed = h.formed.formed;
   matches = subst (λ (m : Matches). AreSaidIn version.One s.undo.was m) (sym h.says) (none-said s.undo.was);
-  follows = h.nothing.follows;
-  facts = h.nothing.facts;
-  old_facts = old-untold_in_one s.undo.was h.nothing.old_facts;
+  follows = h.lines.follows;
+  facts = h.lines.facts;
+  old_facts = old-untold_in_one s.undo.was h.lines.old_facts;
 }
-text-of_state version.Two early s h = record {
+text-of_state version.Two s b h = record {
   formed = h.formed.formed;
   matches = (h.says.has, old-said s.undo.was s.matches.old_has h.says.old_has h.says.of_lines);
-  follows = h.nothing.follows;
-  facts = h.nothing.facts;
-  old_facts = old-untold_in_two s.undo.was h.nothing.old_facts;
+  follows = h.lines.follows;
+  facts = h.lines.facts;
+  old_facts = old-untold_in_two s.undo.was h.lines.old_facts;
 }
-text-of_state version.Three early s h = absurd cc
+text-of_state version.Three s b h = record {
+  formed = h.formed.formed;
+  matches = (h.says.has, old-said_in_three s.undo.was s.matches.old_has h.says.old_has h.says.of_lines);
+  follows = h.lines.follows;
+  facts = facts-formed s.marks s.facts h.lines.facts (b refl).0;
+  old_facts = old-formed s.undo.was h.lines.old_facts (b refl).1;
+}
 
-texts-of_states : (v : Version) → does_follow v ≡ false → (ss : List State) → All (Holds v) ss → All (StateHasText v) ss
-texts-of_states v early [] h = All-nil (StateHasText v)
-texts-of_states v early (s ∷ ss) h =
-    All-cons (StateHasText v) s ss (text-of_state v early s (All-head (Holds v) s ss h)) (texts-of_states v early ss (All-tail (Holds v) s ss h))
+texts-of_states : (v : Version) (ss : List State) → (does_follow v ≡ true → All StateIsBytes ss) → All (Holds v) ss →
+    All (StateHasText v) ss
+texts-of_states v [] b h = All-nil (StateHasText v)
+texts-of_states v (s ∷ ss) b h =
+    All-cons (StateHasText v) s ss (text-of_state v s (λ e. All-head StateIsBytes s ss (b e)) (All-head (Holds v) s ss h))
+    (texts-of_states v ss (λ e. All-tail StateIsBytes s ss (b e)) (All-tail (Holds v) s ss h))
 
-text-of_looped : (v : Version) → does_follow v ≡ false → (l : Option Looped) → LoopedHolds v l → LoopedHasText v l
-text-of_looped v early None h = tt
-text-of_looped v early (Some l) h = (text-of_state v early l.invariant h.0, texts-of_states v early l.inner h.1)
+text-of_looped : (v : Version) (l : Option Looped) → (does_follow v ≡ true → LoopedIsBytes l) → LoopedHolds v l → LoopedHasText v l
+text-of_looped v None b h = tt
+text-of_looped v (Some l) b h = (text-of_state v l.invariant (λ e. (b e).0) h.0, texts-of_states v l.inner (λ e. (b e).1) h.1)
 
-texts-of_notes : (v : Version) → does_follow v ≡ false → (ns : List Note) → All (NoteHolds v) ns → All (NoteHasText v) ns
-texts-of_notes v early [] h = All-nil (NoteHasText v)
-texts-of_notes v early (n ∷ ns) h =
+texts-of_notes : (v : Version) (ns : List Note) → (does_follow v ≡ true → All NoteIsBytes ns) → All (NoteHolds v) ns → All (NoteHasText v) ns
+texts-of_notes v [] b h = All-nil (NoteHasText v)
+texts-of_notes v (n ∷ ns) b h =
     let here = All-head (NoteHolds v) n ns h in
-    All-cons (NoteHasText v) n ns (text-of_state v early n.state here.0, text-of_looped v early n.looped here.1) (texts-of_notes v early ns (All-tail (NoteHolds v) n ns h))
+    let bytes : does_follow v ≡ true → NoteIsBytes n = λ e. All-head NoteIsBytes n ns (b e) in
+    All-cons (NoteHasText v) n ns
+    (text-of_state v n.state (λ e. (bytes e).0) here.0, text-of_looped v n.looped (λ e. (bytes e).1) here.1)
+    (texts-of_notes v ns (λ e. All-tail NoteIsBytes n ns (b e)) (All-tail (NoteHolds v) n ns h))
 
-stated-said : (has : Option (List (List ℕ))) → TextsAreFormed (stated_of has) → IsSaidIn (version_of has) (stated_of has)
-stated-said None h = refl
-stated-said (Some has) h = h
+-- THE START
 
--- whether patterns are stated or not, it is a version before the third
-early : (has : Option (List (List ℕ))) → does_follow (version_of has) ≡ false
-early None = refl
-early (Some has) = refl
+stated-said : (counts : Bool) (has : Option (List (List ℕ))) → TextsAreFormed (stated_of has) → IsSaidIn (version_by counts has) (stated_of has)
+stated-said true has h = h
+stated-said false None h = refl
+stated-said false (Some has) h = h
 
-no_chains-said : (has : Option (List (List ℕ))) → ChainsHaveText (version_of has) []
-no_chains-said None = refl
-no_chains-said (Some has) = refl
+chains-said : (counts : Bool) (has : Option (List (List ℕ))) (landmarks : Option (List ChainValue)) →
+    IfSome landmarks (λ chains. All ChainHasText chains) → ChainsHaveText (version_by counts has) (chains_by counts landmarks)
+chains-said true has None h = All-nil ChainHasText
+chains-said true has (Some chains) h = h
+chains-said false None landmarks h = refl
+chains-said false (Some has) landmarks h = refl
+
+-- single lines are followed just where landmarks count
+pub follows-counts : (counts : Bool) (has : Option (List (List ℕ))) → does_follow (version_by counts has) ≡ true → counts ≡ true
+follows-counts true has e = refl
+follows-counts false None e = e
+follows-counts false (Some has) e = e
 
 -- THE CERTIFICATE
 
-pub has-text : Laws → MatchLaws → (script : Script) (start : Start) (c : Certificate) → All StepIsBytes script.steps → ChoiceIsBytes start.path → TextsAreFormed (stated_of start.has) → All ChoiceIsBytes (map (λ path. Some path) c.writes) →
+pub has-text : Laws → MatchLaws → (script : Script) (start : Start) (c : Certificate) → All StepIsBytes script.steps → ChoiceIsBytes start.path → TextsAreFormed (stated_of start.has) →
+    IfSome start.landmarks (λ chains. All ChainHasText chains) → All ChoiceIsBytes (map (λ path. Some path) c.writes) →
+    (does_follow (version_of script start) ≡ true → All NoteIsBytes c.notes × StateIsBytes c.last) →
     IsAtMost start.min start.max → start.min ≤ most_lines → IfSome start.max (λ most. most ≤ most_lines) → IsCertificate script start c → HasText c
-has-text k m script start c bytes path has paths ordered low high is =
+has-text k m script start c bytes path has chains paths facts ordered low high is =
+    let v : Version = version_of script start in
     let known = script-holds k m script start c.notes bytes path has is.notes in
-    let last : Holds (version_of start.has) c.last =
-    subst (λ (s : State). Holds (version_of start.has) s) (sym is.last) (record {
+    let last : Holds v c.last =
+    subst (λ (s : State). Holds v s) (sym is.last) (record {
       formed = known.1.ended.formed;
       says = known.1.says;
-      nothing = known.1.nothing;
+      lines = known.1.lines;
     }) in
     record {
       path = subst (λ (p : Choice). ChoiceIsBytes p) (sym is.path) path;
@@ -144,13 +203,17 @@ has-text k m script start c bytes path has paths ordered low high is =
           (subst (λ (most : Option ℕ). (is_few start.min && is_limit most && is_within start.min most) ≡ true) (sym is.max)
           (and_from _ _ (and_from _ _ (few start.min low) (limit start.max high)) (within start.min start.max ordered)));
       has =
-          subst (λ (v : Version). IsSaidIn v c.has) (sym is.version)
-          (subst (λ (stated : List (List ℕ)). IsSaidIn (version_of start.has) stated) (sym is.has) (stated-said start.has has));
+          subst (λ (u : Version). IsSaidIn u c.has) (sym is.version)
+          (subst (λ (stated : List (List ℕ)). IsSaidIn v stated) (sym is.has)
+          (stated-said (do_count script start.landmarks) start.has has));
       landmarks =
-          subst (λ (v : Version). ChainsHaveText v c.landmarks) (sym is.version)
-          (subst (λ (chains : List ChainValue). ChainsHaveText (version_of start.has) chains) (sym is.landmarks) (no_chains-said start.has));
-      notes = subst (λ (v : Version). All (NoteHasText v) c.notes) (sym is.version) (texts-of_notes (version_of start.has) (early start.has) c.notes known.0);
-      last = subst (λ (v : Version). StateHasText v c.last) (sym is.version) (text-of_state (version_of start.has) (early start.has) c.last last);
+          subst (λ (u : Version). ChainsHaveText u c.landmarks) (sym is.version)
+          (subst (λ (cs : List ChainValue). ChainsHaveText v cs) (sym is.landmarks)
+          (chains-said (do_count script start.landmarks) start.has start.landmarks chains));
+      notes =
+          subst (λ (u : Version). All (NoteHasText u) c.notes) (sym is.version)
+          (texts-of_notes v c.notes (λ e. (facts e).0) known.0);
+      last = subst (λ (u : Version). StateHasText u c.last) (sym is.version) (text-of_state v c.last (λ e. (facts e).1) last);
       final =
           and_from (is_few c.low) (is_limit c.high) (subst (λ (n : ℕ). is_few n ≡ true) (sym is.low) (low-few (least c.last.zone 2 0)))
           (subst (λ (most : Option ℕ). is_limit most ≡ true) (sym is.high) (high-limit (greatest c.last.zone 2 0)));

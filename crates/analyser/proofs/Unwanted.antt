@@ -33,15 +33,19 @@ use Rattle.ed_rules.proofs.matches.Sayings.{OfSets, AreSaid, Says, says-after}
 use Rattle.ed_rules.proofs.through.Needs.{Any, all-any, anyway}
 use Rattle.ed_rules.proofs.through.Addresses.{beside}
 use Rattle.ed_rules.proofs.through.Steps.{rule-through}
+use Rattle.landmarks.specs.declared.landmark.Landmark.{Landmark}
+use Rattle.landmarks.specs.ChainValues.{ChainValue}
 use Rattle.cert_check.specs.declared.certificate.Version.{Version}
 use Rattle.cert_check.specs.declared.certificate.Version.TheVariants as version
 use Rattle.cert_check.specs.declared.sight.Sight.{Sight}
 use Rattle.cert_check.specs.Certificates.{Looped, Note}
-use Rattle.cert_check.specs.checker.Valid.{sight_of, counted, told_by, told, are_met, left_by, left_after}
+use Rattle.cert_check.specs.checker.Beginning.{began}
+use Rattle.cert_check.specs.checker.Valid.{counted, told_by, told, are_met, left_by, left_after}
 use Rattle.cert_check.specs.text.HasText.{does_follow}
 use Rattle.analyser.specs.declared.analysis.Start.{Start}
-use Rattle.analyser.specs.Following.{IsKnownOfList, AreNotes, version_of, sight_over, begun, stated_of}
+use Rattle.analyser.specs.Following.{IsKnownOfList, AreNotes, do_count, version_by, version_of, sight_over, knowing, begun, stated_of}
 use Rattle.analyser.specs.Judged.{IsVouched}
+use Rattle.analyser.proofs.Telling.{sight-version}
 use Rattle.analyser.proofs.Going.{counted_from, counted-here, later, later-on}
 use Rattle.analyser.specs.Wanted.{seeks_at, seeks_first, enters_match, brings_none, seeks}
 
@@ -249,24 +253,41 @@ module _ (text : List ℕ) where
             (after-plain w n.looped x s early) notes.1
       ]
 
-begun-lacks : (text : List ℕ) (start : Start) → is_member (stated_of start.has) text ≡ false → Says (Lacks text) (begun start)
-unfolding states.start
-begun-lacks text start none = (none-lacks text (stated_of start.has) none, refl)
+begun-lacks : (text : List ℕ) (script : Script) (start : Start) → is_member (stated_of start.has) text ≡ false →
+    Says (Lacks text) (begun script start)
+unfolding states.start knowing
+begun-lacks text script start none =
+    let s : State = states.start start.path start.min start.max (stated_of start.has) in
+    lacks-told_by text (sight_over script start).version (knowing script start s)
+    (lacks-began (version_of script start) _ _ s (none-lacks text (stated_of start.has) none, refl))
+  where
+    lacks-began : (v : Version) (letters : List ℕ) (chains : List (List Landmark)) (s : State) → Says (Lacks text) s →
+        Says (Lacks text) (began v letters chains s)
+    lacks-began version.One letters chains s h = h
+    lacks-began version.Two letters chains s h = h
+    lacks-began version.Three letters chains s h = h
 
-begun-plain : (start : Start) → (begun start).follows ≡ false
-unfolding states.start
-begun-plain start = refl
+-- without landmarks it is a version before the third
+early-by : (has : Option (List (List ℕ))) → does_follow (version_by false has) ≡ false
+early-by None = refl
+early-by (Some has) = refl
 
-early-sight : (script : Script) (has : Option (List (List ℕ))) →
-    does_follow (sight_of script (version_of has) (stated_of has)).version ≡ false
-early-sight script None = refl
-early-sight script (Some has) = refl
+early-without : (script : Script) (has : Option (List (List ℕ))) → does_follow (version_by (do_count script None) has) ≡ false
+unfolding do_count
+early-without script has = early-by has
 
--- a script isn't vouched for over a start without the pattern
+early-sight : (script : Script) (start : Start) → start.landmarks ≡ None → does_follow (sight_over script start).version ≡ false
+early-sight script start none =
+    ap does_follow (sight-version script (version_of script start) (stated_of start.has))
+    ∙ ap (λ (landmarks : Option (List ChainValue)). does_follow (version_by (do_count script landmarks) start.has)) none ∙ early-without script start.has
+
+-- a script isn't vouched for over a start without landmarks and without the pattern
 pub wanted : (text : List ℕ) (script : Script) (start : Start) → text_is_always text ≡ false → seeks text (counted script.steps) ≡ true →
-    is_member (stated_of start.has) text ≡ false → IsVouched script start → ⊥
-wanted text script start never e none v =
-    unwanted text (sight_over script start) (early-sight script start.has) (counted script.steps) (begun start) v.0.notes never e (begun-lacks text start none) (begun-plain start) v.1.notes
+    start.landmarks ≡ None → is_member (stated_of start.has) text ≡ false → IsVouched script start → ⊥
+wanted text script start never e unmarked none v =
+    let early = early-sight script start unmarked in
+    unwanted text (sight_over script start) early (counted script.steps) (begun script start) v.0.notes never e
+    (begun-lacks text script start none) (told-plain text (sight_over script start).version _ early) v.1.notes
 
 -- ONE COMMAND FURTHER
 

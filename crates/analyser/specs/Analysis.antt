@@ -1,5 +1,5 @@
 -- What the analyser answers: a certificate just where no need fails, else the first need that fails.
-use Rattle.std.specs.Prelude.{◌≡◌, ◌↔◌, ◌⊎◌, ℕ, ◌+◌, ℤ, pos, negsuc, List, [], map, length, Option, Some, None, min, nat_lt, if◌then◌else◌}
+use Rattle.std.specs.Prelude.{◌≡◌, ◌↔◌, ◌⊎◌, ℕ, ◌+◌, ℤ, pos, negsuc, List, map, length, Option, Some, None, min, nat_lt, if◌then◌else◌}
 use Rattle.std.specs.List.{Contains}
 use Rattle.std.specs.List.Sorted.{IsStrictlySortedBy}
 use Rattle.std.specs.Ordering.{nat_cmp}
@@ -19,7 +19,7 @@ use Rattle.cert_check.specs.checker.Valid.{counted, has_quit, judged}
 use Rattle.analyser.specs.declared.analysis.Start.{Start}
 use Rattle.analyser.specs.declared.analysis.Analysis.{Analysis}
 use Rattle.analyser.specs.declared.analysis.Analysis.TheVariants.{Vouched, Cannot}
-use Rattle.analyser.specs.Following.{AreNotes, NotesFail, result_from, paths_from, version_of, stated_of, sight_over, begun, end_fault}
+use Rattle.analyser.specs.Following.{AreNotes, NotesFail, result_from, paths_from, version_of, stated_of, chains_of_start, sight_over, begun, end_fault}
 
 -- a low bound as it is told: 0 where none is known, or one below 0; most_lines where it is higher
 abbrev pub low_of : Option ℤ → ℕ
@@ -37,17 +37,17 @@ pub record AreListed (writes : List (List ℕ)) (paths : List Choice) : Type 0 w
   pub just : (path : List ℕ) → Contains writes path ↔ Contains paths (Some path)
   pub rising : IsStrictlySortedBy (slice_cmp nat_cmp) writes
 
--- The certificate of a script in which no need fails: it has the version and the start that were asked for, what follows from there, and
--- the known bounds of the number of lines left.
+-- The certificate of a script in which no need fails: it has the version and the start that were asked for, with the landmarks that count,
+-- what follows from there, and the known bounds of the number of lines left.
 pub record IsCertificate (script : Script) (start : Start) (c : Certificate) : Type 0 where
-  pub version : c.version ≡ version_of start.has
+  pub version : c.version ≡ version_of script start
   pub path : c.path ≡ start.path
   pub min : c.min ≡ start.min
   pub max : c.max ≡ start.max
   pub has : c.has ≡ stated_of start.has
-  pub landmarks : c.landmarks ≡ []
-  pub notes : AreNotes (sight_over script start) (counted script.steps) (begun start) c.notes
-  pub last : c.last ≡ result_from (sight_over script start) (counted script.steps) (begun start) c.notes
+  pub landmarks : c.landmarks ≡ chains_of_start script start
+  pub notes : AreNotes (sight_over script start) (counted script.steps) (begun script start) c.notes
+  pub last : c.last ≡ result_from (sight_over script start) (counted script.steps) (begun script start) c.notes
   pub end : end_fault (has_quit script.steps) script.fault c.last ≡ None
   pub low : c.low ≡ low_of (least c.last.zone last_line name.zero)
   pub high : c.high ≡ high_of (greatest c.last.zone last_line name.zero)
@@ -56,13 +56,13 @@ pub record IsCertificate (script : Script) (start : Start) (c : Certificate) : T
 -- the first need that fails is one of a counted command, or of its list; the notes are those up to it
 pub record CommandFails (script : Script) (start : Start) (place : Place) (why : Fault) (notes : List Note) : Type 0 where
   pub number : place.command ≡ length notes
-  pub fails : NotesFail (sight_over script start) place.inner why (counted script.steps) (begun start) notes
+  pub fails : NotesFail (sight_over script start) place.inner why (counted script.steps) (begun script start) notes
 
 -- it is one of the end, whose number is that after the last counted command; there is a note for each of these
 pub record EndFails (script : Script) (start : Start) (place : Place) (why : Fault) (notes : List Note) : Type 0 where
   pub at_end : place ≡ record { command = length notes + 1; inner = None }
-  pub noted : AreNotes (sight_over script start) (counted script.steps) (begun start) notes
-  pub fails : end_fault (has_quit script.steps) script.fault (result_from (sight_over script start) (counted script.steps) (begun start) notes) ≡ Some why
+  pub noted : AreNotes (sight_over script start) (counted script.steps) (begun script start) notes
+  pub fails : end_fault (has_quit script.steps) script.fault (result_from (sight_over script start) (counted script.steps) (begun script start) notes) ≡ Some why
 
 -- the first need that fails
 abbrev pub IsFailure : Script → Start → Place → Fault → List Note → Type 0

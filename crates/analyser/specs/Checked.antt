@@ -26,7 +26,7 @@ IsBefore place other = (place.command < other.command) ⊎ ((place.command ≡ o
 abbrev pub ChecksHoldBefore : Place → Script → Start → List Note → Type 0
 ChecksHoldBefore place script start notes =
     (writes : List (List ℕ)) → ((path : List ℕ) → Contains (paths_from (counted script.steps) notes) (Some path) → Contains writes path) →
-    All (λ check. IsBefore check.place place → IsTrue check.holds) (checks_from (sight_over script start) writes (λ number left. []) 1 (begun start) (counted script.steps) notes)
+    All (λ check. IsBefore check.place place → IsTrue check.holds) (checks_from (sight_over script start) writes (λ number left. []) 1 (begun script start) (counted script.steps) notes)
 
 -- where a need fails, they hold before its place
 abbrev pub IsChecked : Script → Start → Analysis → Type 0

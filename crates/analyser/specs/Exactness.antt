@@ -17,6 +17,7 @@ use Rattle.cert_check.specs.checker.Sound.{start_lines}
 use Rattle.analyser.specs.declared.analysis.Start.{Start}
 use Rattle.analyser.specs.declared.analysis.Analysis.{Analysis}
 use Rattle.analyser.specs.declared.analysis.Analysis.TheVariants.{Vouched, Cannot}
+use Rattle.analyser.specs.Following.{chains_of_start}
 
 -- the answers to what the commands ask: all after the start file's, where there is a path
 abbrev pub to_commands : (path : Option (List ℕ)) → List Answer → List Answer
@@ -32,12 +33,15 @@ abbrev pub up_to : (k : ℕ) → Script → Script
 up_to k script = record { steps = take k script.steps ++ quit_anyway ∷ []; fault = None }
 
 -- A run of an exact script: it starts with the one number of lines that the analyser was given, each write is done, and after no command
--- are there more lines than a certificate tells of. It has an answer for each command, since with fewer it may only wait for one.
+-- are there more lines than a certificate tells of. It has an answer for each command, since with fewer it may only wait for one. No
+-- landmark counts: what landmarks say of a file without them is so of no file, and by that `9p` is vouched for over three lines of which the
+-- ninth is a landmark. Where a file has them, the law on exact commands says nothing: it speaks of states in which no letter is sure.
 pub record IsExactRun (script : Script) (start : Start) (o : Options) (answers : List Answer) : Type 0 where
   pub exact : IsTrue (are_exact script.steps)
   pub path : o.path ≡ start.path
   pub lines : option_map length (start_lines start.path answers) ≡ Some start.min
   pub one : start.max ≡ Some start.min
+  pub unmarked : chains_of_start script start ≡ []
   pub done : All (λ (a : Answer). a ≡ answer.Done) (to_commands start.path answers)
   pub enough : length script.steps ≤ length (to_commands start.path answers)
   pub few : (k : ℕ) (e : Ending) → stop_of (run (up_to k script) o answers) ≡ Ends (Ok e) → e.lines ≤ most_lines

@@ -9,11 +9,14 @@ use Rattle.ed_rules.specs.Choices.{Choice}
 use Rattle.ed_rules.specs.States as states
 use Rattle.ed_rules.specs.Files.{written_paths}
 use Rattle.ed_rules.specs.Rules.{step, fault_of}
+use Rattle.landmarks.specs.declared.landmark.Landmark.{Landmark}
+use Rattle.landmarks.specs.ChainValues.{ChainValue}
 use Rattle.cert_check.specs.declared.certificate.Version.{Version}
 use Rattle.cert_check.specs.declared.certificate.Version.TheVariants as version
 use Rattle.cert_check.specs.declared.sight.Sight.{Sight}
 use Rattle.cert_check.specs.Certificates.{Looped, Note}
-use Rattle.cert_check.specs.checker.Valid.{sight_of, are_met, left_by, left_after}
+use Rattle.cert_check.specs.checker.Beginning.{landmarks_of, has_letters, letters_of_chains, began}
+use Rattle.cert_check.specs.checker.Valid.{sight_of, told, are_met, left_by, left_after}
 use Rattle.analyser.specs.declared.analysis.Start.{Start}
 use Rattle.analyser.specs.Rounds.{IsSettled, AreInner, InnerFail, entered}
 
@@ -90,10 +93,29 @@ paths_from (x ∷ xs) (n ∷ ns) = (written_paths x.command.verb n.state ++ loop
 
 -- A SCRIPT
 
--- the version of the certificate that is asked for: where a set of patterns is given, even an empty one, it tells of matches
-abbrev pub version_of : (has : Option (List (List ℕ))) → Version
-version_of None = version.One
-version_of (Some has) = version.Two
+-- Landmarks count where chains of them are given, maybe none, and the script leaves a letter for each.
+unfoldable pub do_count : Script → (landmarks : Option (List ChainValue)) → Bool
+do_count script None = false
+do_count script (Some chains) = has_letters script (landmarks_of chains)
+
+-- The version of the certificate that is asked for: where landmarks count, it tells of single lines; else, where a set of patterns is
+-- given, even an empty one, it tells of matches.
+abbrev pub version_by : (counts : Bool) → (has : Option (List (List ℕ))) → Version
+version_by true has = version.Three
+version_by false None = version.One
+version_by false (Some has) = version.Two
+
+abbrev pub version_of : Script → Start → Version
+version_of script start = version_by (do_count script start.landmarks) start.has
+
+-- the chains that count
+abbrev pub chains_by : (counts : Bool) → (landmarks : Option (List ChainValue)) → List ChainValue
+chains_by true None = []
+chains_by true (Some chains) = chains
+chains_by false landmarks = []
+
+abbrev pub chains_of_start : Script → Start → List ChainValue
+chains_of_start script start = chains_by (do_count script start.landmarks) start.landmarks
 
 -- the patterns that some line of the start matches, as far as it is told
 abbrev pub stated_of : (has : Option (List (List ℕ))) → List (List ℕ)
@@ -102,11 +124,18 @@ stated_of (Some has) = has
 
 -- what a script is judged by, beside what is known
 abbrev pub sight_over : Script → Start → Sight
-sight_over script start = sight_of script (version_of start.has) (stated_of start.has)
+sight_over script start = sight_of script (version_of script start) (stated_of start.has)
 
--- what is known at the start
-abbrev pub begun : Start → State
-begun start = states.start start.path start.min start.max (stated_of start.has)
+-- a state that knows of the landmarks too that count
+unfoldable pub knowing : Script → Start → State → State
+knowing script start s =
+    let chains : List (List Landmark) = landmarks_of (chains_of_start script start) in
+    began (version_of script start) (letters_of_chains script chains) chains s
+
+-- what is known at the start, as far as it is told
+abbrev pub begun : Script → Start → State
+begun script start =
+    told (sight_over script start) (knowing script start (states.start start.path start.min start.max (stated_of start.has)))
 
 -- A script without `q` and `Q` ends by a `q`: what can't be read is reached then, and no change may be left.
 abbrev pub end_fault : (quit : Bool) → (bad : Option ℕ) → State → Option Fault

@@ -12,7 +12,9 @@ use Rattle.ed_rules.specs.Texts.{with_text}
 use Rattle.ed_rules.specs.Formed.{TextsAreBytes}
 use Rattle.cert_check.specs.declared.sight.Sight.{Sight}
 use Rattle.cert_check.specs.checker.Covering.{covers}
+use Rattle.cert_check.specs.checker.InForm.{HaveBytes}
 use Rattle.cert_check.specs.declared.certificate.Looped.{Looped}
+use Rattle.cert_check.specs.Certificates as plain
 use Rattle.cert_check.specs.Certificates.{looped_value, note_value}
 use Rattle.cert_check.specs.checker.Valid.{counted, has_quit, left_after}
 use Rattle.analyser.specs.declared.rounds.Round.{Round}
@@ -88,3 +90,18 @@ IsWalk w steps s walk = IsOutcome w steps s walk walk.outcome
 -- the texts of a command and of its list are bytes
 abbrev pub StepIsBytes : Step → Type 0
 StepIsBytes x = TextsAreBytes x.command × All TextsAreBytes x.list
+
+-- the patterns of facts are bytes: those of an earlier buffer, of a state, of what is known of a list, and before a command
+abbrev pub OldIsBytes : Option Old → Type 0
+OldIsBytes None = Unit {0}
+OldIsBytes (Some old) = HaveBytes old.facts
+
+abbrev pub StateIsBytes : State → Type 0
+StateIsBytes s = HaveBytes s.facts × OldIsBytes s.undo.was
+
+abbrev pub LoopedIsBytes : Option plain.Looped → Type 0
+LoopedIsBytes None = Unit {0}
+LoopedIsBytes (Some l) = StateIsBytes l.invariant × All StateIsBytes l.inner
+
+abbrev pub NoteIsBytes : plain.Note → Type 0
+NoteIsBytes n = StateIsBytes n.state × LoopedIsBytes n.looped

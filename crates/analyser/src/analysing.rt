@@ -1,10 +1,10 @@
 //! The analyser.
 
-ghost use Rattle.std.specs.Prelude.{◌≡◌, ◌≤◌, All, IfOk, IfSome};
+ghost use Rattle.std.specs.Prelude.{◌≡◌, ◌≤◌, All, IfOk, IfSome, IsTrue};
 ghost use Rattle.ed_syntax.specs.PublicTypes.{steps_value};
 ghost use Rattle.ed_syntax.specs.PublicScript.{script_value};
 ghost use Rattle.ed_rules.specs.LineBounds.{IsAtMost};
-ghost use Rattle.analyser.specs.Following.{version_of, stated_of, sight_over, begun, end_fault};
+ghost use Rattle.analyser.specs.Following.{do_count, version_by, chains_by, stated_of, sight_over, knowing, begun, end_fault};
 ghost use Rattle.analyser.specs.Analysis.{most_lines, IsAnswer, IsValid, HasTextIfVouched};
 ghost use Rattle.analyser.specs.Checked.{IsChecked};
 ghost use Rattle.analyser.specs.Exactness.{IsExactAnswer};
@@ -12,15 +12,17 @@ ghost use Rattle.analyser.specs.Walking.{IsWalk, StepIsBytes};
 
 use crate::analysis::{Analysis, Start};
 use crate::bounds::{high_of, low_of};
+use crate::fact_texts::{chains_have_text, told_are_bytes};
 use crate::laws::exact_scripts_are_foretold;
 use crate::texts::{has_is_formed, path_is_bytes, paths_are_bytes, steps_are_bytes};
 use crate::walk::{Outcome, Walk, go_through, place_of};
-use cert_check::{Certificate, Sight, Version, covering_is_decided};
+use cert_check::{Certificate, Sight, Version, covering_is_decided, know_chains};
 use ed_base::Fault;
 use ed_rules::{
     KeptState, State, Texts, joined_states_are_covered, matches_stay_formed, states_stay_formed,
 };
 use ed_syntax::Script;
+use landmarks::{LandmarkChain, LandmarkChains};
 use std::alloc::{AllocError, Global};
 
 /// The fault that may come at the end of a script.
@@ -38,13 +40,26 @@ pub(crate) fn end_fault(quit: bool, fault: Option<usize>, last: &KeptState) -> O
     }
 }
 
-/// The version of the certificate that is asked for.
-fn version_of(has: &Option<Texts>) -> Version
-    ensures value { result ≡ version_of has.now }
+/// The version of the certificate that is asked for, by whether landmarks count.
+fn version_of(counts: bool, has: &Option<Texts>) -> Version
+    ensures value { result ≡ version_by counts has.now }
 {
+    if counts {
+        return Version::Three;
+    }
     match has {
         None => Version::One,
         Some(_) => Version::Two,
+    }
+}
+
+/// The chains of landmarks that count.
+fn chains_of(alloc: Global, counts: bool, landmarks: Option<LandmarkChains>) -> Vec<LandmarkChain>
+    ensures value { result.items ≡ chains_by counts landmarks }
+{
+    match landmarks {
+        Some(chains) if counts => chains.into_vec(),
+        _ => Vec::new(alloc),
     }
 }
 
@@ -58,28 +73,44 @@ fn stated_of(alloc: Global, has: Option<Texts>) -> Texts
     }
 }
 
-/// What the script is judged by beside what is known, and what is known at the start, where some of its lines match these patterns.
+/// From now on the state knows of the landmarks, if they count, as is answered.
+fn know(state: &mut State, script: &Script, start: &Start) -> Result<bool, AllocError>
+    ensures value { IfOk result (λ counts. (counts ≡ do_count (script_value script.now) start.now.landmarks)
+        × (state.new ≡ knowing (script_value script.now) start.now state.old)) }
+{
+    match &start.landmarks {
+        None => Ok(false),
+        Some(chains) => know_chains(state, script, chains.as_slice()),
+    }
+}
+
+/// Whether landmarks count, what the script is judged by beside what is known, and what is known at the start, where some of its lines
+/// match these patterns.
 fn opened(
     alloc: Global,
     script: &Script,
     start: &Start,
     has: &Texts,
-) -> Result<(Sight, State), AllocError>
+) -> Result<(bool, Sight, State), AllocError>
     requires stated { has.now ≡ stated_of start.now.has }
-    ensures value { IfOk result (λ (sight, begins). (sight ≡ sight_over (script_value script.now) start.now) × (begins ≡ begun start.now)) }
+    ensures value { IfOk result (λ (counts, sight, begins). (counts ≡ do_count (script_value script.now) start.now.landmarks)
+        × (sight ≡ sight_over (script_value script.now) start.now) × (begins ≡ begun (script_value script.now) start.now)) }
 {
-    let sight = Sight::of(script, version_of(&start.has), has)?;
-    let begins = State::start(alloc, &start.path, start.min, start.max, has)?;
-    Ok((sight, begins))
+    let mut begins = State::start(alloc, &start.path, start.min, start.max, has)?;
+    let counts = know(&mut begins, script, start)?;
+    let sight = Sight::of(script, version_of(counts, &start.has), has)?;
+    sight.tell(&mut begins);
+    Ok((counts, sight, begins))
 }
 
-/// What the script is judged by beside what is known, and what is known at the start.
+/// Whether landmarks count, what the script is judged by beside what is known, and what is known at the start.
 pub(crate) fn begin(
     alloc: Global,
     script: &Script,
     start: &Start,
-) -> Result<(Sight, State), AllocError>
-    ensures value { IfOk result (λ (sight, begins). (sight ≡ sight_over (script_value script.now) start.now) × (begins ≡ begun start.now)) }
+) -> Result<(bool, Sight, State), AllocError>
+    ensures value { IfOk result (λ (counts, sight, begins). (counts ≡ do_count (script_value script.now) start.now.landmarks)
+        × (sight ≡ sight_over (script_value script.now) start.now) × (begins ≡ begun (script_value script.now) start.now)) }
 {
     match &start.has {
         None => opened(alloc, script, start, &Texts::none(alloc)),
@@ -88,8 +119,9 @@ pub(crate) fn begin(
 }
 
 /// The answer, by what the walk over the counted commands came to.
-fn answer(script: &Script, start: Start, walk: Walk) -> Analysis
-    requires walked { IsWalk (sight_over (script_value script.now) start) (steps_value script.now.commands.items) (begun start) walk }
+fn answer(script: &Script, start: Start, counts: bool, walk: Walk) -> Analysis
+    requires counted { counts ≡ do_count (script_value script.now) start.landmarks }
+    requires walked { IsWalk (sight_over (script_value script.now) start) (steps_value script.now.commands.items) (begun (script_value script.now) start) walk }
     requires ordered { IsAtMost start.min start.max }
     requires low { start.min ≤ most_lines }
     requires high { IfSome start.max (λ most. most ≤ most_lines) }
@@ -111,6 +143,7 @@ fn answer(script: &Script, start: Start, walk: Walk) -> Analysis
     } = walk;
     path_is_bytes(&start.path);
     has_is_formed(&start.has);
+    chains_have_text(&start.landmarks);
     paths_are_bytes(writes.as_slice());
     match outcome {
         Outcome::Fails { place, why } => Analysis::Cannot { place, why, notes },
@@ -120,25 +153,29 @@ fn answer(script: &Script, start: Start, walk: Walk) -> Analysis
                 why,
                 notes,
             },
-            None => Analysis::Vouched(Certificate {
-                version: version_of(&start.has),
-                path: start.path,
-                min: start.min,
-                max: start.max,
-                has: stated_of(*script.commands.allocator(), start.has),
-                landmarks: Vec::new(*script.commands.allocator()),
-                notes,
-                low: low_of(&last.zone()),
-                high: high_of(&last.zone()),
-                last,
-                writes,
-            }),
+            None => {
+                told_are_bytes(counts, notes.as_slice(), &last);
+                Analysis::Vouched(Certificate {
+                    version: version_of(counts, &start.has),
+                    path: start.path,
+                    min: start.min,
+                    max: start.max,
+                    has: stated_of(*script.commands.allocator(), start.has),
+                    landmarks: chains_of(*script.commands.allocator(), counts, start.landmarks),
+                    notes,
+                    low: low_of(&last.zone()),
+                    high: high_of(&last.zone()),
+                    last,
+                    writes,
+                })
+            }
         },
     }
 }
 
-/// Makes the certificate that a script can't fail over any start of these bounds in which some line matches each of the patterns, or
-/// tells the first need that fails. It goes through the script once, and through the list of a global command in rounds.
+/// Makes the certificate that a script can't fail over any start of these bounds in which some line matches each of the patterns and
+/// the landmarks are, if they count, or tells the first need that fails. It goes through the script once, and through the list of a global
+/// command in rounds.
 pub fn analyse(script: &Script, start: Start) -> Result<Analysis, AllocError>
     requires ordered { IsAtMost start.min start.max }
     requires low { start.min ≤ most_lines }
@@ -162,7 +199,7 @@ pub fn analyse(script: &Script, start: Start) -> Result<Analysis, AllocError>
     exact_scripts_are_foretold();
     let alloc = *script.commands.allocator();
     steps_are_bytes(script.commands.as_slice());
-    let (sight, begins) = begin(alloc, script, &start)?;
+    let (counts, sight, begins) = begin(alloc, script, &start)?;
     let walk = go_through(alloc, &sight, script.commands.as_slice(), begins)?;
-    Ok(answer(script, start, walk))
+    Ok(answer(script, start, counts, walk))
 }

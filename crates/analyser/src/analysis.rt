@@ -3,6 +3,7 @@
 use cert_check::{Certificate, Note, Place};
 use ed_base::{Bytes, Fault};
 use ed_rules::Texts;
+use landmarks::LandmarkChains;
 
 /// The start of the runs that a script is analysed for.
 #[derive(Debug, Drop)]
@@ -14,8 +15,12 @@ pub struct Start {
     /// The most lines that the start may have; with none there is no limit.
     pub max: Option<u64>,
     /// The patterns that some line of the start matches, maybe none: then a certificate of version 2 is made, which states them. With
-    /// `None` it is one of version 1, which tells nothing of what lines match.
+    /// `None` it is one of version 1, which tells nothing of what lines match. A certificate of version 3 states them too.
     pub has: Option<Texts>,
+    /// Chains of landmarks that the start has, maybe none: then a certificate of version 3 is made, which states them and tells of single
+    /// lines what they match. With `None`, and where the script leaves too few letters for the landmarks, so that they don't count, the
+    /// version is as `has` says.
+    pub landmarks: Option<LandmarkChains>,
 }
 
 /// Whether a script is vouched for.

@@ -27,7 +27,7 @@ pub struct Failure {
 
 /// The first need that fails, by what the commands came to.
 fn judgement(script: &Script, start: &Start, passage: Passage) -> Option<Failure>
-    requires passed { IsPassage (sight_over (script_value script.now) start.now) (steps_value script.now.commands.items) (begun start.now) passage }
+    requires passed { IsPassage (sight_over (script_value script.now) start.now) (steps_value script.now.commands.items) (begun (script_value script.now) start.now) passage }
     requires within { passage.count ≤ length script.now.commands.items }
     ensures exact { IsJudgement (script_value script.now) start.now result }
 {
@@ -54,7 +54,7 @@ pub fn first_failure(script: &Script, start: &Start) -> Result<Option<Failure>, 
     ensures exact { IfOk result (IsJudgement (script_value script.now) start.now) }
 {
     let alloc = *script.commands.allocator();
-    let (sight, begins) = begin(alloc, script, start)?;
+    let (_, sight, begins) = begin(alloc, script, start)?;
     let passage = pass_through(alloc, &sight, script.commands.as_slice(), begins)?;
     Ok(judgement(script, start, passage))
 }

@@ -4,6 +4,7 @@
 mod analysing;
 mod analysis;
 mod bounds;
+mod fact_texts;
 mod judging;
 mod laws;
 mod passing;

@@ -11,7 +11,7 @@ use ed_rules::Texts;
 use ed_syntax::{Address, Addresses, Base, Command, Pattern, Verb};
 
 /// Items of a slice of bytes are bytes.
-fn are_bytes(bytes: &[u8])
+pub(crate) fn are_bytes(bytes: &[u8])
     ensures bytes { All (λ byte. byte < 256) bytes.now }
 {
     let _bytes = bytes;

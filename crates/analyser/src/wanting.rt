@@ -1,6 +1,6 @@
 //! Patterns that a start has to state, as a script alone shows.
 
-ghost use Rattle.std.specs.Prelude.{◌≡◌, false, IfOk, IsTrue};
+ghost use Rattle.std.specs.Prelude.{◌≡◌, false, None, IfOk, IsTrue};
 ghost use Rattle.ed_syntax.specs.PublicScript.{script_value};
 ghost use Rattle.ed_syntax.specs.PublicTypes.{addresses_value, alteration_value, base_value, step_value};
 ghost use Rattle.bre_parse.specs.Always.{text_is_always};
@@ -72,10 +72,10 @@ fn is_always(alloc: Global, pattern: &[u8]) -> Result<bool, AllocError>
     }
 }
 
-/// Whether a script is seen not to be vouched for over any start that doesn't state a pattern: a command searches for it first of all, and
-/// none before it may bring a line that matches. It goes through the script once, by what the commands say alone.
+/// Whether a script is seen not to be vouched for over any start without landmarks that doesn't state a pattern: a command searches for it
+/// first of all, and none before it may bring a line that matches. It goes through the script once, by what the commands say alone.
 pub fn wants(alloc: Global, script: &Script, pattern: &[u8]) -> Result<bool, AllocError>
-    ensures sound { IfOk result (λ yes. IsTrue yes → (start : Start) → is_member (stated_of start.has) pattern.now ≡ false →
+    ensures sound { IfOk result (λ yes. IsTrue yes → (start : Start) → start.landmarks ≡ None → is_member (stated_of start.has) pattern.now ≡ false →
         ¬ IsVouched (script_value script.now) start) }
 {
     if is_always(alloc, pattern)? {

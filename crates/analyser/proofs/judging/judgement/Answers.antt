@@ -9,14 +9,14 @@ use Rattle.analyser.proofs.judging.judgement.Goals as goal
 pub returns-in-Fails : goal.returns-in-Fails
 returns-in-Fails c =
     let w = sight_over (script_value c.args.script.now) c.args.start.now in
-    let stops = subst (λ o. IsPassed w (steps_value c.args.script.now.commands.items) (begun c.args.start.now) c.args.passage.count c.args.passage.quit o)
+    let stops = subst (λ o. IsPassed w (steps_value c.args.script.now.commands.items) (begun (script_value c.args.script.now) c.args.start.now) c.args.passage.count c.args.passage.quit o)
     c.in-Fails.is c.requires.passed in
     record { exact = fails-by (script_value c.args.script.now) c.args.start.now c.in-Fails.place c.in-Fails.why stops }
 
 pub returns-in-Some : goal.returns-in-Some
 returns-in-Some c =
     let w = sight_over (script_value c.args.script.now) c.args.start.now in
-    let passes = subst (λ o. IsPassed w (steps_value c.args.script.now.commands.items) (begun c.args.start.now) c.args.passage.count c.args.passage.quit o)
+    let passes = subst (λ o. IsPassed w (steps_value c.args.script.now.commands.items) (begun (script_value c.args.script.now) c.args.start.now) c.args.passage.count c.args.passage.quit o)
     c.in-Left.is c.requires.passed in
     record {
       exact = fails-at_end (script_value c.args.script.now) c.args.start.now c.args.passage.count c.args.passage.quit c.in-Left.last c.end_fault.result
@@ -26,7 +26,7 @@ returns-in-Some c =
 pub returns : goal.returns
 returns c =
     let w = sight_over (script_value c.args.script.now) c.args.start.now in
-    let passes = subst (λ o. IsPassed w (steps_value c.args.script.now.commands.items) (begun c.args.start.now) c.args.passage.count c.args.passage.quit o)
+    let passes = subst (λ o. IsPassed w (steps_value c.args.script.now.commands.items) (begun (script_value c.args.script.now) c.args.start.now) c.args.passage.count c.args.passage.quit o)
     c.in-Left.is c.requires.passed in
     record {
       exact = vouched-by (script_value c.args.script.now) c.args.start.now c.args.passage.count c.args.passage.quit c.in-Left.last c.end_fault.result
