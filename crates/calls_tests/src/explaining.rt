@@ -35,6 +35,7 @@ fn explained(
         min,
         max,
         has,
+        landmarks: None,
     };
     let mut aside = Aside::new(alloc, script, b"");
     let starts = Starts::Given(start);

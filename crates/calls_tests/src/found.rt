@@ -45,6 +45,7 @@ pub(crate) fn sought(alloc: Global, part: Part) -> Result<Option<Starts>, AllocE
         min,
         max,
         has,
+        landmarks: None,
     })))
 }
 

@@ -56,6 +56,7 @@ pub(crate) fn vouched(
         min,
         max,
         has,
+        landmarks: None,
     };
     let mut aside = Aside::new(alloc, script, b"");
     let starts = Starts::Given(start);

@@ -9,6 +9,7 @@ use analyser::Start;
 use ed_base::Bytes;
 use ed_rules::Texts;
 use hints::{Given, Like, copy_of, fullest_like, fullest_start, like_start, widest_start};
+use landmarks::LandmarkChains;
 use std::alloc::{AllocError, Global};
 
 /// The start that a script is judged over.
@@ -76,6 +77,7 @@ fn copy_of_given(given: &Given) -> Result<Given, AllocError>
         min: given.min,
         max: given.max,
         has: copy_of_has(&given.has)?,
+        landmarks: copy_of_landmarks(&given.landmarks)?,
     })
 }
 
@@ -104,6 +106,17 @@ fn copy_of_has(has: &Option<Texts>) -> Result<Option<Texts>, AllocError>
 {
     match has {
         Some(has) => Ok(Some(has.try_copy()?)),
+        None => Ok(None),
+    }
+}
+
+fn copy_of_landmarks(
+    landmarks: &Option<LandmarkChains>,
+) -> Result<Option<LandmarkChains>, AllocError>
+    ensures value { IfOk result (λ copy. copy ≡ landmarks.now) }
+{
+    match landmarks {
+        Some(landmarks) => Ok(Some(landmarks.try_copy()?)),
         None => Ok(None),
     }
 }

@@ -23,7 +23,7 @@ rehearsal silent prompt path = Some (job.Edit (record { silent = silent; prompt 
 
 -- what a script is judged over on a file F, where it is: any such file
 abbrev over_any : (vouched : Bool) → Option Wanted
-over_any true = Some (Stated (Widest (record { path = Some (codes "F"); min = None; max = None; has = Some [] })))
+over_any true = Some (Stated (Widest (record { path = Some (codes "F"); min = None; max = None; has = Some []; landmarks = None })))
 over_any false = None
 
 -- a run on F only if the script is vouched for, or its rehearsal
@@ -33,7 +33,7 @@ edit_vouched rehearsed = Some (job.Edit (record { silent = false; prompt = None;
 -- the same on the empty buffer
 abbrev edit_empty_vouched : Option Job
 edit_empty_vouched =
-    let over = Stated (Given (record { path = None; min = 0; max = Some 0; has = Some [] })) in
+    let over = Stated (Given (record { path = None; min = 0; max = Some 0; has = Some []; landmarks = None })) in
     Some (job.Edit (record { silent = false; prompt = None; path = None }) None writing.AtOnce (Some over))
 
 -- a run on F only if the script is vouched for over files like G
@@ -48,23 +48,23 @@ edit_whole vouched = Some (job.Edit (record { silent = false; prompt = None; pat
 
 -- a certificate for these bounds
 abbrev vouch : ℕ → Option ℕ → Option (List ℕ) → Option Job
-vouch min max path = Some (job.Vouch (Stated (Given (record { path = path; min = min; max = max; has = None }))) None false)
+vouch min max path = Some (job.Vouch (Stated (Given (record { path = path; min = min; max = max; has = None; landmarks = None }))) None false)
 
 -- the same, or else all refusals
 abbrev vouch_all : ℕ → Option ℕ → Option (List ℕ) → Option Job
-vouch_all min max path = Some (job.Vouch (Stated (Given (record { path = path; min = min; max = max; has = None }))) None true)
+vouch_all min max path = Some (job.Vouch (Stated (Given (record { path = path; min = min; max = max; has = None; landmarks = None }))) None true)
 
 -- a certificate that tells of patterns, which states these
 abbrev vouch_with : List (List ℕ) → Option Job
-vouch_with has = Some (job.Vouch (Stated (Given (record { path = Some (codes "F"); min = 1; max = None; has = Some has }))) None false)
+vouch_with has = Some (job.Vouch (Stated (Given (record { path = Some (codes "F"); min = 1; max = None; has = Some has; landmarks = None }))) None false)
 
 -- a certificate for the widest start of these bounds, as far as they are given
 abbrev vouch_widest : (min max : Option ℕ) → Option Job
-vouch_widest min max = Some (job.Vouch (Stated (Widest (record { path = Some (codes "F"); min = min; max = max; has = None }))) None false)
+vouch_widest min max = Some (job.Vouch (Stated (Widest (record { path = Some (codes "F"); min = min; max = max; has = None; landmarks = None }))) None false)
 
 -- a certificate for the empty buffer, with these patterns, or else all refusals
 abbrev vouch_empty_with : List (List ℕ) → Option Job
-vouch_empty_with has = Some (job.Vouch (Stated (Given (record { path = None; min = 0; max = Some 0; has = Some has }))) None true)
+vouch_empty_with has = Some (job.Vouch (Stated (Given (record { path = None; min = 0; max = Some 0; has = Some has; landmarks = None }))) None true)
 
 -- a certificate for files F like G, or all refusals; one that tells of patterns, if it is asked for
 abbrev vouch_like : (patterns all : Bool) → Option Job
@@ -91,11 +91,11 @@ abbrev edit_from_file : (silent vouched : Bool) → Option Job
 edit_from_file silent vouched = Some (job.Edit (record { silent = silent; prompt = None; path = Some (codes "F") }) (Some (codes "S")) writing.AtOnce (over_any vouched))
 
 abbrev vouch_from_file : Option Job
-vouch_from_file = Some (job.Vouch (Stated (Widest (record { path = Some (codes "F"); min = None; max = None; has = None }))) (Some (codes "S")) false)
+vouch_from_file = Some (job.Vouch (Stated (Widest (record { path = Some (codes "F"); min = None; max = None; has = None; landmarks = None }))) (Some (codes "S")) false)
 
 -- scripts that are judged without certificates
 abbrev judge : (scripts : List (List ℕ)) → Detail → Option Job
-judge scripts detail = Some (job.Judge (Stated (Widest (record { path = Some (codes "F"); min = None; max = None; has = None }))) scripts detail)
+judge scripts detail = Some (job.Judge (Stated (Widest (record { path = Some (codes "F"); min = None; max = None; has = None; landmarks = None }))) scripts detail)
 
 abbrev judge_like : (scripts : List (List ℕ)) → Detail → Option Job
 judge_like scripts detail = Some (job.Judge (Like (Some (codes "F")) false (codes "G")) scripts detail)

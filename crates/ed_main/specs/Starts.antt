@@ -15,5 +15,5 @@ pub record AreStarts (starts : Starts) : Type 0 where
 
 -- any start with the file at this path that states these patterns; without a file the buffer is empty, and no start is to be found
 abbrev pub any_start : (path : Option (List ℕ)) → (has : Option (List (List ℕ))) → Starts
-any_start None has = Given (record { path = None; min = 0; max = Some 0; has = has })
-any_start (Some path) has = Widest (record { path = Some path; min = None; max = None; has = has })
+any_start None has = Given (record { path = None; min = 0; max = Some 0; has = has; landmarks = None })
+any_start (Some path) has = Widest (record { path = Some path; min = None; max = None; has = has; landmarks = None })

@@ -144,9 +144,9 @@ are_in_order least most = is_within (unwrap_or least 0) (unwrap_or most None)
 
 -- the start of these bounds where both are given, and else what is given of the widest one
 abbrev pub starts_of : (path : Option (List ℕ)) → (least : Option ℕ) → (most : Option (Option ℕ)) → (has : Option (List (List ℕ))) → Starts
-starts_of path (Some least) (Some most) has = Given (record { path = path; min = least; max = most; has = has })
-starts_of path (Some least) None has = Widest (record { path = path; min = Some least; max = None; has = has })
-starts_of path None (Some most) has = Widest (record { path = path; min = None; max = most; has = has })
+starts_of path (Some least) (Some most) has = Given (record { path = path; min = least; max = most; has = has; landmarks = None })
+starts_of path (Some least) None has = Widest (record { path = path; min = Some least; max = None; has = has; landmarks = None })
+starts_of path None (Some most) has = Widest (record { path = path; min = None; max = most; has = has; landmarks = None })
 starts_of path None None has = any_start path has
 
 -- the values of an option that may come several times

@@ -19,12 +19,14 @@ pub fn any_start(path: Option<Bytes>, has: Option<Texts>) -> Starts
             min: 0,
             max: Some(0),
             has,
+            landmarks: None,
         }),
         Some(path) => Starts::Widest(Given {
             path: Some(path),
             min: None,
             max: None,
             has,
+            landmarks: None,
         }),
     }
 }

@@ -72,6 +72,7 @@ widest-by script given start min fewest has is allowed least low states =
       path = refl;
       given_least = least-kept given.min fewest min lowered.kept least;
       most = refl;
+      landmarks = refl;
       allowed = allowed-below given has has fewest min lowered.below allowed;
       vouched = lowered.vouched;
       least = lowered.least;

@@ -1,12 +1,14 @@
 -- Starts that keep what another one says.
 use Rattle.std.proofs.Common.{◌≡◌, ℕ, List, [], ◌∷◌, ◌++◌, Option, Some, None, Result, Ok, Err, IfOk, IfSome, ◌<◌, ◌≤◌, refl, sym, ◌∙◌, ap, subst, inl, inr, arith}
 use Rattle.std.specs.declared.alloc.AllocError.{AllocError}
+use Rattle.std.proofs.lemmas.List.{append_assoc}
+use Rattle.landmarks.specs.ChainValues.{ChainValue}
 use Rattle.ed_rules.specs.Texts.{with_text, with_texts}
 use Rattle.cert_check.specs.declared.checker.verdict.Place.{Place}
 use Rattle.analyser.specs.declared.analysis.Start.{Start}
 use Rattle.analyser.specs.Following.{stated_of}
 use Rattle.hints.specs.declared.hint.Hint.{Hint}
-use Rattle.hints.specs.Passing.{IsStating, IsWithin, Keeps}
+use Rattle.hints.specs.Passing.{IsStating, chains_in, IsLandmarking, IsWithin, Keeps}
 use Rattle.hints.specs.Hints.{IsTried}
 
 -- the most lines lie within themselves
@@ -26,12 +28,12 @@ within-below None most below = tt
 within-below (Some g) most below = omega (arith, below)
 
 -- a start of the same path and patterns keeps them, where its bounds lie within
-pub keeps-bounds : (start then : Start) → then.path ≡ start.path → then.has ≡ start.has → start.min ≤ then.min → IsWithin start.max then.max → Keeps start then
-keeps-bounds start then path has least most = record { path = path; stated = inl has; least = least; most = most }
+pub keeps-bounds : (start then : Start) → then.path ≡ start.path → then.has ≡ start.has → then.landmarks ≡ start.landmarks → start.min ≤ then.min → IsWithin start.max then.max → Keeps start then
+keeps-bounds start then path has landmarks least most = record { path = path; stated = inl has; landmarks = inl landmarks; least = least; most = most }
 
 -- a start keeps what it says itself
 pub keeps-itself : (start : Start) → Keeps start start
-keeps-itself start = keeps-bounds start start refl refl (omega arith) (within-itself start.max)
+keeps-itself start = keeps-bounds start start refl refl refl (omega arith) (within-itself start.max)
 
 -- putting in some texts and then others puts in all of them
 pub texts-twice : (first second set : List (List ℕ)) → with_texts second (with_texts first set) ≡ with_texts (first ++ second) set
@@ -51,11 +53,28 @@ stating-through has then now stated (inr (patterns, is)) = stating-on has then n
 stating-through has then now (inl was) (inl is) = inl (is ∙ was)
 stating-through has then now (inr (before, was)) (inl is) = inr (before, is ∙ was)
 
+marking-on : (landmarks then now : Option (List ChainValue)) (chains : List ChainValue) → IsLandmarking landmarks then →
+    now ≡ Some (chains_in then ++ chains) → IsLandmarking landmarks now
+marking-on landmarks then now chains (inl same) is =
+    inr (chains, is ∙ ap (λ (o : Option (List ChainValue)). Some (chains_in o ++ chains)) same)
+marking-on landmarks then now chains (inr (before, was)) is =
+    inr (
+      before ++ chains,
+      is ∙ ap (λ (o : Option (List ChainValue)). Some (chains_in o ++ chains)) was
+          ∙ ap (λ (l : List ChainValue). Some l) (append_assoc (chains_in landmarks) before chains),
+    )
+
+marking-through : (landmarks then now : Option (List ChainValue)) → IsLandmarking landmarks then → IsLandmarking then now → IsLandmarking landmarks now
+marking-through landmarks then now marked (inr (chains, is)) = marking-on landmarks then now chains marked is
+marking-through landmarks then now (inl was) (inl is) = inl (is ∙ was)
+marking-through landmarks then now (inr (before, was)) (inl is) = inr (before, is ∙ was)
+
 -- what is kept of what was kept
 pub keeps-through : (start then now : Start) → Keeps start then → Keeps then now → Keeps start now
 keeps-through start then now kept more = record {
   path = more.path ∙ kept.path;
   stated = stating-through start.has then.has now.has kept.stated more.stated;
+  landmarks = marking-through start.landmarks then.landmarks now.landmarks kept.landmarks more.landmarks;
   least = omega (arith, kept.least, more.least);
   most = within-through start.max then.max now.max kept.most more.most;
 }
@@ -75,12 +94,12 @@ tried-for script start then place (Err e) kept tried = tt
 
 -- a start with more patterns keeps what was stated
 pub keeps-patterns : (start then : Start) (patterns : List (List ℕ)) →
-    then ≡ record { path = start.path; min = start.min; max = start.max; has = Some (with_texts patterns (stated_of start.has)) } → Keeps start then
+    then ≡ record { path = start.path; min = start.min; max = start.max; has = Some (with_texts patterns (stated_of start.has)); landmarks = start.landmarks } → Keeps start then
 keeps-patterns start then patterns is =
-    subst (λ (s : Start). Keeps start s) (sym is) (record { path = refl; stated = inr (patterns, refl); least = omega arith; most = within-itself start.max })
+    subst (λ (s : Start). Keeps start s) (sym is) (record { path = refl; stated = inr (patterns, refl); landmarks = inl refl; least = omega arith; most = within-itself start.max })
 
 -- nor do other bounds within change it
-pub keeps-bounded : (start then : Start) (min : ℕ) (max : Option ℕ) → then ≡ record { path = start.path; min = min; max = max; has = start.has } → start.min ≤ min →
+pub keeps-bounded : (start then : Start) (min : ℕ) (max : Option ℕ) → then ≡ record { path = start.path; min = min; max = max; has = start.has; landmarks = start.landmarks } → start.min ≤ min →
     IsWithin start.max max → Keeps start then
 keeps-bounded start then min max is least most =
-    subst (λ (s : Start). Keeps start s) (sym is) (keeps-bounds start (record { path = start.path; min = min; max = max; has = start.has }) refl refl least most)
+    subst (λ (s : Start). Keeps start s) (sym is) (keeps-bounds start (record { path = start.path; min = min; max = max; has = start.has; landmarks = start.landmarks }) refl refl refl least most)

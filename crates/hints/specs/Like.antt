@@ -51,10 +51,10 @@ is_by_numbers script = list_all takes_none_by_text script.steps && list_any take
 abbrev pub lines_in : Like → ℕ
 lines_in like = length (lines_of like.file)
 
--- just the start file, with as many lines as there are given; a certificate of version 2 where it is asked for
+-- just the start file, with as many lines as there are given; a certificate of version 2 where it is asked for, and no landmark
 abbrev pub given_within : Like → (min : Option ℕ) → (max : Option ℕ) → Given
 given_within like min max =
-    record { path = like.path; min = min; max = max; has = if like.patterns then Some [] else None }
+    record { path = like.path; min = min; max = max; has = if like.patterns then Some [] else None; landmarks = None }
 
 -- What is given of the start: exactly as many lines as the file has, where the script takes lines by their numbers; else any number.
 abbrev pub given_like : Script → Like → Given

@@ -1,8 +1,9 @@
 -- Where a script is vouched for, and which places an analysis gets past (our own).
-use Rattle.std.specs.Prelude.{◌≡◌, ◌<◌, ◌≤◌, ◌⊎◌, ◌+◌, ◌-◌, ◌^◌, ℕ, List, Option, Some, None, IfSome, IsSomeAnd}
+use Rattle.std.specs.Prelude.{◌≡◌, ◌<◌, ◌≤◌, ◌⊎◌, ◌+◌, ◌-◌, ◌^◌, ◌++◌, ℕ, List, [], Option, Some, None, IfSome, IsSomeAnd}
 use Rattle.std.specs.Option.{unwrap_or}
 use Rattle.ed_base.specs.declared.fault.Fault.{Fault}
 use Rattle.ed_syntax.specs.Commands.{Script}
+use Rattle.landmarks.specs.ChainValues.{ChainValue}
 use Rattle.ed_rules.specs.LineBounds.{most_lines, IsAtMost}
 use Rattle.ed_rules.specs.Texts.{with_texts}
 use Rattle.cert_check.specs.declared.checker.verdict.Place.{Place}
@@ -24,11 +25,11 @@ FailsAt script start place = (why : Fault) × ((notes : List Note) × IsFailure 
 
 -- a start with another least number of lines
 abbrev pub with_min : Start → ℕ → Start
-with_min start min = record { path = start.path; min = min; max = start.max; has = start.has }
+with_min start min = record { path = start.path; min = min; max = start.max; has = start.has; landmarks = start.landmarks }
 
 -- a start with this greatest number of lines
 abbrev pub with_max : Start → ℕ → Start
-with_max start most = record { path = start.path; min = start.min; max = Some most; has = start.has }
+with_max start most = record { path = start.path; min = start.min; max = Some most; has = start.has; landmarks = start.landmarks }
 
 -- the most lines that a start may have
 abbrev pub most_of : Option ℕ → ℕ
@@ -49,15 +50,25 @@ pub record FewerLinesHelp (script : Script) (start : Start) : Type 0 where
 abbrev pub IsStating : (has now : Option (List (List ℕ))) → Type 0
 IsStating has now = (now ≡ has) ⊎ ((patterns : List (List ℕ)) × (now ≡ Some (with_texts patterns (stated_of has))))
 
+-- the chains of landmarks that are stated, as far as they are
+abbrev pub chains_in : (landmarks : Option (List ChainValue)) → List ChainValue
+chains_in None = []
+chains_in (Some chains) = chains
+
+-- The same landmarks are stated, or these chains come after those that are.
+abbrev pub IsLandmarking : (landmarks now : Option (List ChainValue)) → Type 0
+IsLandmarking landmarks now = (now ≡ landmarks) ⊎ ((chains : List ChainValue) × (now ≡ Some (chains_in landmarks ++ chains)))
+
 -- there are at most as many lines as were given, where there was a most
 abbrev pub IsWithin : (given most : Option ℕ) → Type 0
 IsWithin None most = Unit {0}
 IsWithin (Some given) most = IsSomeAnd most (λ m. m ≤ given)
 
--- A start has the path of another one, no pattern is left out that is stated there, and its bounds lie within those of that one.
+-- A start has the path of another one, no pattern and no landmark is left out that is stated there, and its bounds lie within those of that one.
 pub record Keeps (start then : Start) : Type 0 where
   pub path : then.path ≡ start.path
   pub stated : IsStating start.has then.has
+  pub landmarks : IsLandmarking start.landmarks then.landmarks
   pub least : start.min ≤ then.min
   pub most : IsWithin start.max then.max
 

@@ -125,7 +125,7 @@ GetsPastAll script start place = (inner : ℕ) → GetsPast script start (record
 
 -- a start that states these patterns too
 abbrev pub stating : Start → List (List ℕ) → Start
-stating start patterns = record { path = start.path; min = start.min; max = start.max; has = Some (with_texts patterns (stated_of start.has)) }
+stating start patterns = record { path = start.path; min = start.min; max = start.max; has = Some (with_texts patterns (stated_of start.has)); landmarks = start.landmarks }
 
 -- It helps to state these patterns: there are some, each can be typed, and over the start that states them too the script gets past the
 -- place with all of the command's list, or more lines help.

@@ -10,9 +10,9 @@ use Rattle.analyser.specs.Following.{stated_of}
 use Rattle.hints.specs.declared.given.Given.{Given}
 use Rattle.hints.specs.Passing.{IsAllowed, IsVouched, most_of, with_min}
 
--- the start that is given, with this least number of lines and these patterns
+-- the start that is given, its landmarks among it, with this least number of lines and these patterns
 abbrev pub start_with : Given → (min : ℕ) → (has : Option (List (List ℕ))) → Start
-start_with given min has = record { path = given.path; min = min; max = given.max; has = has }
+start_with given min has = record { path = given.path; min = min; max = given.max; has = has; landmarks = given.landmarks }
 
 -- the patterns that are given, and these beside them
 abbrev pub beside : Given → (added : List (List ℕ)) → Option (List (List ℕ))
@@ -56,6 +56,7 @@ pub record IsWidest (script : Script) (given : Given) (start : Start) : Type 0 w
   pub path : start.path ≡ given.path
   pub given_least : IfSome given.min (λ min. start.min ≡ min)
   pub most : start.max ≡ given.max
+  pub landmarks : start.landmarks ≡ given.landmarks
   pub allowed : IsAllowed start
   pub vouched : IsVouched script start
   pub least : IfNone given.min (0 < start.min → IsVouched script (with_min start (start.min - 1)) → ⊥)

@@ -133,6 +133,7 @@ fn given_within(
         min,
         max,
         has,
+        landmarks: None,
     })
 }
 

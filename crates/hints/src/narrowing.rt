@@ -13,7 +13,7 @@ ghost use Rattle.hints.specs.Narrowing.{AreEnough};
 use crate::given::Given;
 use crate::passing::is_vouched;
 use crate::sought::is_always;
-use crate::starts::{copy_of_has, copy_of_path};
+use crate::starts::{copy_of_has, copy_of_landmarks, copy_of_path};
 use crate::stating::stated_of;
 use analyser::{Start, wants};
 use ed_base::Bytes;
@@ -30,6 +30,7 @@ fn start_with(given: &Given, min: u64, has: Option<Texts>) -> Result<Start, Allo
         min,
         max: given.max,
         has,
+        landmarks: copy_of_landmarks(&given.landmarks)?,
     })
 }
 
@@ -104,7 +105,7 @@ fn is_stated(start: &Start, pattern: &[u8]) -> bool
 }
 
 /// Whether a script is vouched for without the pattern at a place, beside the others and those that are given. A script that is seen to want
-/// the pattern isn't analysed.
+/// the pattern isn't analysed; where landmarks are given it may do without.
 fn is_vouched_without(
     alloc: Global,
     script: &Script,
@@ -122,7 +123,7 @@ fn is_vouched_without(
     let pattern = patterns[place].as_slice();
     let others = without(alloc, patterns, place)?;
     let start = start_beside(alloc, given, min, others.as_slice())?;
-    if !is_stated(&start, pattern) && wants(alloc, script, pattern)? {
+    if start.landmarks.is_none() && !is_stated(&start, pattern) && wants(alloc, script, pattern)? {
         return Ok(false);
     }
     is_vouched(script, start)

@@ -11,6 +11,7 @@ use analyser::Start;
 use ed_base::Bytes;
 use ed_rules::{LineBounds, Texts};
 use ed_syntax::{Script, read_script};
+use landmarks::LandmarkChains;
 use std::alloc::{AllocError, Global};
 
 pub(crate) fn copy_of_path(path: &Option<Bytes>) -> Result<Option<Bytes>, AllocError>
@@ -31,15 +32,27 @@ pub(crate) fn copy_of_has(has: &Option<Texts>) -> Result<Option<Texts>, AllocErr
     }
 }
 
-/// A start with the path and the patterns of another one, and these bounds.
+pub(crate) fn copy_of_landmarks(
+    landmarks: &Option<LandmarkChains>,
+) -> Result<Option<LandmarkChains>, AllocError>
+    ensures value { IfOk result (λ copy. copy ≡ landmarks.now) }
+{
+    match landmarks {
+        Some(landmarks) => Ok(Some(landmarks.try_copy()?)),
+        None => Ok(None),
+    }
+}
+
+/// A start with the path, the patterns and the landmarks of another one, and these bounds.
 pub(crate) fn with_bounds(start: &Start, min: u64, max: Option<u64>) -> Result<Start, AllocError>
-    ensures value { IfOk result (λ copy. copy ≡ record { path = start.now.path; min = min; max = max; has = start.now.has }) }
+    ensures value { IfOk result (λ copy. copy ≡ record { path = start.now.path; min = min; max = max; has = start.now.has; landmarks = start.now.landmarks }) }
 {
     Ok(Start {
         path: copy_of_path(&start.path)?,
         min,
         max,
         has: copy_of_has(&start.has)?,
+        landmarks: copy_of_landmarks(&start.landmarks)?,
     })
 }
 
@@ -60,7 +73,7 @@ pub(crate) fn is_vouched_within(
     requires ordered { IsAtMost min max }
     requires low { min ≤ most_lines }
     requires high { IfSome max (λ most. most ≤ most_lines) }
-    ensures exact { IfOk result (λ yes. IsTrue yes ↔ IsVouched (script_value script.now) (record { path = start.now.path; min = min; max = max; has = start.now.has })) }
+    ensures exact { IfOk result (λ yes. IsTrue yes ↔ IsVouched (script_value script.now) (record { path = start.now.path; min = min; max = max; has = start.now.has; landmarks = start.now.landmarks })) }
 {
     is_vouched(script, with_bounds(start, min, max)?)
 }

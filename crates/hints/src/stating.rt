@@ -38,12 +38,19 @@ fn with_patterns(alloc: Global, start: &Start, patterns: &Texts) -> Result<Start
     'patterns: for pattern in patterns.members() {
         all.add(pattern.as_slice())?;
     }
-    let Start { path, min, max, .. } = copy_of(start)?;
+    let Start {
+        path,
+        min,
+        max,
+        landmarks,
+        ..
+    } = copy_of(start)?;
     Ok(Start {
         path,
         min,
         max,
         has: Some(all),
+        landmarks,
     })
 }
 

@@ -123,18 +123,21 @@ fn starts_of(
             min,
             max,
             has,
+            landmarks: None,
         }),
         (Some(min), None) => Starts::Widest(Given {
             path,
             min: Some(min),
             max: None,
             has,
+            landmarks: None,
         }),
         (None, Some(max)) => Starts::Widest(Given {
             path,
             min: None,
             max,
             has,
+            landmarks: None,
         }),
         (None, None) => any_start(path, has),
     }

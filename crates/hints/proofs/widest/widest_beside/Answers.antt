@@ -36,6 +36,15 @@ fewer-preserved-in-Some c = record {
       (ap (λ (l : List (List ℕ)). are_members l c.args.added.items) c.as_slice-in-fewer.ensures.value ∙ c.fewer.invariant.among);
 }
 
+pub fewer-preserved : goal.fewer-preserved
+fewer-preserved c = record {
+  enough = rw c.in-Some.is at c.in_ok-fewer.ensures.enough;
+  below = fewest-below c.in_ok-fewest.fewest c.in_ok-start.start c.args.given.now c.fewer.most c.args.min _
+      c.in_ok-fewest.ensures.below c.in_ok-start.ensures.value c.fewer.invariant.below;
+  among = members-through c.in-Some.fewer.items c.as_slice-in-fewer.result.now c.args.added.items (rw c.in-Some.is at c.in_ok-fewer.ensures.among)
+      (ap (λ (l : List (List ℕ)). are_members l c.args.added.items) c.as_slice-in-fewer.ensures.value ∙ c.fewer.invariant.among);
+}
+
 pub fewer_of-requires : goal.fewer_of-requires
 fewer_of-requires c = record {
   enough = enough-other (script_value c.args.script.now) c.args.given.now c.in_ok-fewest.fewest c.fewer.left.items c.as_slice-in-fewer.result.now
