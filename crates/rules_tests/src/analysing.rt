@@ -35,6 +35,7 @@ pub(crate) fn analysed(
             min,
             max,
             has,
+            landmarks: None,
         },
     )?)
 }

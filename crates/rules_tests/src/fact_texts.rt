@@ -11,7 +11,7 @@ use std::alloc::{AllocError, Global};
 use std::test::Fail;
 use zones::Name;
 
-fn add_known(
+pub(crate) fn add_known(
     facts: &mut LineFacts,
     name: Name,
     pattern: &[u8],
@@ -26,7 +26,12 @@ fn add_known(
     Ok(())
 }
 
-fn add_clear(facts: &mut LineFacts, after: u8, before: u8, pattern: &[u8]) -> Result<(), AllocError>
+pub(crate) fn add_clear(
+    facts: &mut LineFacts,
+    after: u8,
+    before: u8,
+    pattern: &[u8],
+) -> Result<(), AllocError>
     requires after { after < 33 }
     requires before { before < 33 }
 {

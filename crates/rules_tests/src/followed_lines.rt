@@ -191,7 +191,7 @@ static SUBSTITUTIONS: [Row; 19] = [
     Row { beginning: Beginning::CurrentMatches, script: b"s/B/x/\n", failing: None, current: None },
     // A line that was found matches what was searched for.
     Row { beginning: Beginning::Known, script: b"/A/s//x/\n", failing: None, current: None },
-    Row { beginning: Beginning::Known, script: b"/A/;/B/s//x/\n", failing: Some((1, Fault::NoMatch)), current: None },
+    Row { beginning: Beginning::Known, script: b"/A/;/B/s//x/\n", failing: None, current: None },
     // A split is no fault.
     Row { beginning: Beginning::Port, script: b"/^Port/s/22/2\\\n2/\n", failing: None, current: None },
     // Nothing is known, or of another line, or that it doesn't match.
@@ -202,9 +202,9 @@ static SUBSTITUTIONS: [Row; 19] = [
     Row { beginning: Beginning::CurrentMatches, script: b"1s/B/x/\n", failing: Some((1, Fault::NoMatch)), current: None },
     // There may be no second match.
     Row { beginning: Beginning::Port, script: b"/^Port/s/22/2222/2\n", failing: Some((1, Fault::NoMatch)), current: None },
-    // Of two lines the other one may not match.
-    Row { beginning: Beginning::Port, script: b"/^Port/,'bs/22/2222/\n", failing: Some((1, Fault::NoMatch)), current: None },
-    Row { beginning: Beginning::Port, script: b"/^Port/,$s/22/2222/\n", failing: Some((1, Fault::NoMatch)), current: None },
+    // One line of several is enough.
+    Row { beginning: Beginning::Port, script: b"/^Port/,'bs/22/2222/\n", failing: None, current: None },
+    Row { beginning: Beginning::Port, script: b"/^Port/,$s/22/2222/\n", failing: None, current: None },
     // In a run that follows no lines nothing is known of them.
     Row { beginning: Beginning::PortNotFollowed, script: b"'as/22/2222/\n", failing: Some((1, Fault::NoMatch)), current: None },
     // After a command nothing is known.

@@ -32,6 +32,8 @@ mod plain;
 #[cfg(test)]
 mod rules;
 #[cfg(test)]
+mod some_lines;
+#[cfg(test)]
 mod stated_facts;
 #[cfg(test)]
 mod substitution;
@@ -39,6 +41,8 @@ mod substitution;
 mod text;
 #[cfg(test)]
 mod third_version;
+#[cfg(test)]
+mod told_facts;
 #[cfg(test)]
 mod versions;
 #[cfg(test)]

@@ -44,6 +44,7 @@ fn holds(alloc: Global, row: &Row) -> Result<bool, Unreached> {
         min: None,
         max: row.max,
         has: None,
+        landmarks: None,
     };
     let fullest = fullest_start(alloc, row.script, &given)?;
     let read = read_script(alloc, row.script)?;

@@ -123,6 +123,7 @@ fn given_of(alloc: Global, row: &Row) -> Result<Given, Unreached> {
         min: row.min,
         max: row.max,
         has: has_of(alloc, row.has)?,
+        landmarks: None,
     })
 }
 
