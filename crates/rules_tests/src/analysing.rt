@@ -12,32 +12,36 @@ use std::test::Fail;
 /// A certificate tells of at most 10^12 lines.
 const MOST_LINES: u64 = 1_000_000_000_000;
 
-/// The answer over a start whose bounds are those of starts; with patterns it is one of version two.
+/// The answer over a start whose bounds are those of starts.
+pub(crate) fn analysed_over(
+    script: &Script,
+    start: analyser::Start,
+) -> Result<Analysis, Unreached> {
+    let ordered = match start.max {
+        Some(max) => start.min <= max && max <= MOST_LINES,
+        None => start.min <= MOST_LINES,
+    };
+    if !ordered {
+        return Err(Unreached::Need);
+    }
+    Ok(analyse(script, start)?)
+}
+
+/// The answer over a start without landmarks; with patterns it is one of version two.
 pub(crate) fn analysed(
     alloc: Global,
     script: &Script,
     start: Start,
     has: Option<Texts>,
 ) -> Result<Analysis, Unreached> {
-    let (min, max) = (start.min, start.max);
-    let ordered = match max {
-        Some(max) => min <= max && max <= MOST_LINES,
-        None => min <= MOST_LINES,
+    let start = analyser::Start {
+        path: path_of(alloc, start)?,
+        min: start.min,
+        max: start.max,
+        has,
+        landmarks: None,
     };
-    if !ordered {
-        return Err(Unreached::Need);
-    }
-    let path = path_of(alloc, start)?;
-    Ok(analyse(
-        script,
-        analyser::Start {
-            path,
-            min,
-            max,
-            has,
-            landmarks: None,
-        },
-    )?)
+    analysed_over(script, start)
 }
 
 #[derive(Drop)]

@@ -46,6 +46,8 @@ mod told_facts;
 #[cfg(test)]
 mod versions;
 #[cfg(test)]
+mod vouched_landmarks;
+#[cfg(test)]
 mod walking;
 #[cfg(test)]
 mod widest;

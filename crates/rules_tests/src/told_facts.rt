@@ -4,7 +4,7 @@ ghost use Rattle.std.specs.Prelude.{◌<◌};
 
 use crate::collecting::Collecting;
 use crate::fact_texts::{add_clear, add_known};
-use crate::walking::{Start, lines, state_of};
+use crate::walking::{Start, Unreached, lines, state_of};
 use cert_check::{
     Sight, Version, know_chains, landmarks_in, letters_left, write_facts, write_old_facts,
 };
@@ -150,16 +150,24 @@ static LETTERED: [Lettered; 8] = [
     Lettered { script: b"p\n", chains: &[FROM_1_TO_25, b"26; 27"], left: 26, count: 27, sure: None },
 ];
 
-fn chains_of(alloc: Global, texts: &[&[u8]]) -> Result<Vec<LandmarkChain>, AllocError> {
+fn read_chains(alloc: Global, texts: &[&[u8]]) -> Result<Option<Vec<LandmarkChain>>, AllocError> {
     let mut chains = Vec::new(alloc);
     for text in texts {
         let text = Bytes::from_slice(alloc, text)?;
         let Ok(chain) = LandmarkChain::read(alloc, text) else {
-            return Err(AllocError);
+            return Ok(None);
         };
         chains.push(chain)?;
     }
-    Ok(chains)
+    Ok(Some(chains))
+}
+
+/// The chains that these texts spell.
+pub(crate) fn chains_of(alloc: Global, texts: &[&[u8]]) -> Result<Vec<LandmarkChain>, Unreached> {
+    match read_chains(alloc, texts)? {
+        Some(chains) => Ok(chains),
+        None => Err(Unreached::Need),
+    }
 }
 
 /// The letters that are sure.
@@ -175,7 +183,7 @@ fn sure_in(alloc: Global, marks: &Marks) -> Result<Bytes, AllocError> {
 }
 
 /// Whether a state knows of the landmarks, by these letters, and follows single lines; where there are too few letters, whether it is as before.
-fn is_lettered(alloc: Global, row: &Lettered) -> Result<bool, AllocError> {
+fn is_lettered(alloc: Global, row: &Lettered) -> Result<bool, Unreached> {
     let script = script_of(alloc, row.script)?;
     let chains = chains_of(alloc, row.chains)?;
     let mut state = state_of(alloc, lines!(2, Some(4)))?;
