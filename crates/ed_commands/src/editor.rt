@@ -152,6 +152,13 @@ impl<S: LineStore> Editor<S> {
         Ok(())
     }
 
+    /// The lines before a place are going to be looked at one by one, and the store readies itself for that. Nothing changes.
+    fn open_lines(&mut self, to: usize) -> Result<(), AllocError>
+        ensures unchanged { self.new ≡ self.old }
+    {
+        self.store.open(to)
+    }
+
     /// It fails, unless it has failed before: the first fault stays.
     fn fail(&mut self, fault: Fault) -> Fault
         ensures first { result ≡ unwrap_or self.old.failed fault }

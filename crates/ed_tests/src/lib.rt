@@ -28,6 +28,8 @@ mod stores;
 #[cfg(test)]
 mod substitutions;
 #[cfg(test)]
+mod uncut;
+#[cfg(test)]
 mod undoing;
 #[cfg(test)]
 mod written;

@@ -8,7 +8,7 @@ use std::alloc::{AllocError, Global};
 use std::process::Abort;
 
 /// A store of the lines of a file of these bytes.
-fn store_of<S: LineStore>(alloc: Global, file: &[u8]) -> Result<S, AllocError> {
+pub(crate) fn store_of<S: LineStore>(alloc: Global, file: &[u8]) -> Result<S, AllocError> {
     let file = FileLines::new(alloc, Bytes::from_slice(alloc, file)?)?;
     let mut store = S::empty(alloc)?;
     match store.exchange_block(0, 0, Block::of_file(file)?) {
@@ -34,12 +34,12 @@ fn check_part<S: LineStore>(
 }
 
 /// What is written of all lines is this.
-fn check_all<S: LineStore>(rt: &impl Abort, alloc: Global, store: &S, expected: &[u8]) {
+pub(crate) fn check_all<S: LineStore>(rt: &impl Abort, alloc: Global, store: &S, expected: &[u8]) {
     check_part(rt, alloc, store, 0, store.len(), expected);
 }
 
 /// So often these bytes.
-fn repeated(alloc: Global, count: usize, of: &[u8]) -> Result<Bytes, AllocError> {
+pub(crate) fn repeated(alloc: Global, count: usize, of: &[u8]) -> Result<Bytes, AllocError> {
     let mut all = Bytes::new(alloc);
     for _ in 0..count {
         all.extend_from_slice(of)?;
@@ -106,7 +106,7 @@ fn some_lines_of_a_chunk_are_written_without_the_others(rt: HostRuntime) {
 }
 
 /// Puts a line of these bytes in place of another, or the store is as before.
-fn change<S: LineStore>(alloc: Global, store: &mut S, place: usize, text: &[u8]) -> bool
+pub(crate) fn change<S: LineStore>(alloc: Global, store: &mut S, place: usize, text: &[u8]) -> bool
     requires line { IsLine text.now }
 {
     if place >= store.len() {

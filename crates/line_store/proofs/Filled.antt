@@ -1,20 +1,33 @@
 -- Lines that are taken off a file's bytes, one after another.
-use Rattle.std.proofs.Common.{◌≡◌, ℕ, ◌+◌, ◌<◌, ◌≤◌, List, [], ◌∷◌, ◌++◌, length, min, nat_eq, true, false, cond, sym, ap, ◌∙◌, arith, append_assoc, append-nil, ⊎_elim}
+use Rattle.std.proofs.Common.{◌≡◌, ℕ, ◌+◌, ◌<◌, ◌≤◌, List, [], ◌∷◌, ◌++◌, length, map, min, nat_eq, true, false, cond, sym, ap, ◌∙◌, arith, append_assoc, append-nil, ⊎_elim}
 use Rattle.std.proofs.lemmas.Bool.{cases_eq}
 use Rattle.std.proofs.lemmas.List.{length-append, length-map, map-append}
 use Rattle.std.proofs.lemmas.List.Sums.{sum_by_push, sum_by-append}
 use Rattle.ed_base.specs.Lines.{newline, onto_first, lines_of}
 use Rattle.ed_base.specs.Buffer.{Line, plain_line, texts}
 use Rattle.ed_base.proofs.LineLemmas.{lines_of-newline, lines_of-other}
+use Rattle.line_store.specs.BlockKinds.{lines_in}
 use Rattle.line_store.specs.Chunks.{full, joined}
 use Rattle.line_store.specs.Kept.{flag_count}
+use Rattle.line_store.specs.declared.block.Kind.{Kind}
+use Rattle.line_store.specs.declared.block.Kind.TheVariants as kind
 use Rattle.line_store.proofs.Joined.{joined-append}
+use Rattle.line_store.proofs.Taken.{texts-plain}
 
 -- a line without the flag, after others without it
 pub unflagged-more : (lines : List Line) (line : Line) (text : List ℕ) →
     line ≡ plain_line text → flag_count lines ≡ 0 → flag_count (lines ++ line ∷ []) ≡ 0
 unflagged-more lines line text is none =
     sum_by_push (λ (line : Line). cond line.flag 1 0) lines line ∙ omega (arith, none, ap {B = ℕ} (λ (l : Line). cond l.flag 1 0) is)
+
+-- a plain line after others
+pub plain-more : (lines : List Line) (line : Line) (text : List ℕ) → line ≡ plain_line text → lines ≡ map plain_line (texts lines) →
+    lines ++ line ∷ [] ≡ map plain_line (texts (lines ++ line ∷ []))
+plain-more lines line text is before =
+    let one : line ≡ plain_line line.bytes = is ∙ ap plain_line (sym (ap (λ (l : Line). l.bytes) is)) in
+    ap (λ t. t ++ line ∷ []) before
+    ∙ ap (λ (l : Line). map plain_line (texts lines) ++ l ∷ []) one
+    ∙ sym (ap (map plain_line) (map-append (λ (l : Line). l.bytes) lines (line ∷ [])) ∙ map-append plain_line (texts lines) (line.bytes ∷ []))
 
 -- one more line, and those after it
 pub taken-next : (lines : List Line) (line : Line) (text : List ℕ) (all left rest : List (List ℕ)) →
@@ -86,3 +99,8 @@ pub fewer-left : (lines : List Line) (old new : List ℕ) → nat_eq (length old
     length lines ≡ min full (length (lines_of old)) → length (lines_of new) < length (lines_of old)
 fewer-left lines old new some is count =
     omega (arith, taken-count lines (lines_of old) (lines_of new) is, count, lines-some old (some-bytes old some))
+
+-- a block of a file has its lines
+pub whole-file : (block : Kind) (file : List ℕ) (count : ℕ) (lines : List (List ℕ)) → block ≡ kind.File file count → texts (lines_in block) ≡ lines →
+    lines_of file ≡ lines
+whole-file block file count lines is has = sym (texts-plain (lines_of file)) ∙ ap (λ k. texts (lines_in k)) (sym is) ∙ has

@@ -17,3 +17,4 @@ pub mod Taken
 pub mod Filled
 pub mod Written
 pub mod Runs
+pub mod Uncut

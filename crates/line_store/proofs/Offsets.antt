@@ -1,10 +1,11 @@
 -- What is known of where chunks begin, as lines come in and go out.
-use Rattle.std.proofs.Common.{◌≡◌, ℕ, ◌+◌, ◌-◌, ◌^◌, ◌<◌, ◌≤◌, List, [], length, get_or, set, refl, ◌∙◌, sym, arith, length-set, ⊎_elim}
+use Rattle.std.proofs.Common.{◌≡◌, ℕ, ◌+◌, ◌-◌, ◌^◌, ◌<◌, ◌≤◌, List, [], ◌∷◌, ◌++◌, length, get_or, set, refl, ap, ◌∙◌, sym, arith, append-nil, length-set, ⊎_elim}
 use Rattle.std.proofs.lemmas.Bool.{cases_lt}
+use Rattle.std.proofs.lemmas.List.{length-append, take-append-le}
 use Rattle.ed_base.specs.Buffer.{Line}
 use Rattle.line_store.specs.Starts.{StartsValue}
-use Rattle.line_store.specs.Chunks.{joined, room_among, Known, Starts}
-use Rattle.line_store.proofs.Joined.{before-most, before-next, before-later, before-set_low, before-set_high, length-joined-set}
+use Rattle.line_store.specs.Chunks.{joined, lines_before, room_among, Known, Starts}
+use Rattle.line_store.proofs.Joined.{before-all, before-most, before-next, before-take, joined-append, before-later, before-set_low, before-set_high, length-joined-set}
 
 -- each chunk's start was counted
 pub known-counted : (count : ℕ) (starts : StartsValue) (chunks : List (List Line)) → count ≡ length (joined chunks) →
@@ -59,6 +60,43 @@ pub known-exchanged : (k count : ℕ) (starts : StartsValue) (chunks : List (Lis
     Known count starts (set chunks k chunk)
 known-exchanged k count starts chunks chunk known inside same =
     known-moved k count count starts starts chunks chunk known inside (omega arith) refl refl (λ m h l. omega arith) (λ m h. refl)
+
+-- one more chunk after all others
+before-first : (k : ℕ) (chunks more : List (List Line)) → k ≤ length chunks → lines_before k (chunks ++ more) ≡ lines_before k chunks
+before-first k chunks more h =
+    sym (before-take k (chunks ++ more)) ∙ ap (λ t. length (joined t)) (take-append-le k chunks more h) ∙ before-take k chunks
+
+pub known-pushed : (count all : ℕ) (old reserved new : StartsValue) (chunks now : List (List Line)) (chunk : List Line) →
+    Known count old chunks → now ≡ chunks ++ chunk ∷ [] → all ≡ count + length chunk → reserved.starts ≡ old.starts →
+    length old.starts + 1 ≤ reserved.room → length new.starts ≡ length reserved.starts + 1 → get_or new.starts (length reserved.starts) 0 ≡ count →
+    ((k : ℕ) → k < length reserved.starts → get_or new.starts k 0 ≡ get_or reserved.starts k 0) → new.room ≡ reserved.room →
+    Known all new now
+known-pushed count all old reserved new chunks now chunk known is size same room long last earlier kept =
+    let many : length now ≡ length chunks + 1 = ap length is ∙ length-append chunks (chunk ∷ []) in
+    let before : length reserved.starts ≡ length chunks = ap length same ∙ known.long in
+    record {
+      all = omega (
+        arith,
+        size,
+        known.all,
+        ap (λ t. length (joined t)) is,
+        ap length (joined-append chunks (chunk ∷ [])),
+        length-append (joined chunks) (chunk ++ []),
+        ap length (append-nil chunk),
+      );
+      room = omega (arith, many, room, kept, known.long);
+      long = omega (arith, long, before, many);
+      before = λ k h. ⊎_elim
+          (λ l.
+          earlier k (omega (arith, before)) ∙ ap (λ t. get_or t k 0) same ∙ known.before k l
+          ∙ sym (ap (lines_before k) is ∙ before-first k chunks (chunk ∷ []) (omega arith)))
+          (λ l.
+          let at : k ≡ length chunks = omega (arith, many) in
+          ap (λ n. get_or new.starts n 0) (at ∙ sym before) ∙ last ∙ known.all ∙ sym (before-all chunks)
+          ∙ ap (λ n. lines_before n chunks) (sym at)
+          ∙ sym (ap (lines_before k) is ∙ before-first k chunks (chunk ∷ []) (omega arith)))
+          (cases_lt k (length chunks));
+    }
 
 -- where no chunk is lost and no line comes in, there is as much room
 pub room-least : (old new : List (List Line)) → length old ≤ length new → length (joined new) ≤ length (joined old) →

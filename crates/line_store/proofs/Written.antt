@@ -21,7 +21,7 @@ block-one i xs x h is =
     ∙ drop_at (take i xs) (get_or xs i x ∷ []) i (length-take-le i xs (omega arith))
     ∙ ap (λ y. y ∷ []) (sym is)
 
-block-joined : {X : Type 0} (a i j : ℕ) (xs : List X) → a ≤ i → i ≤ j → i ≤ length xs →
+pub block-joined : {X : Type 0} (a i j : ℕ) (xs : List X) → a ≤ i → i ≤ j → i ≤ length xs →
     block a j xs ≡ block a i xs ++ block i j xs
 block-joined a i j xs h k l =
     ap (drop a) (sym (front i j xs k)) ∙ drop-append-le a (take i xs) (block i j xs) (omega (arith, length-take-le i xs l))
@@ -60,7 +60,7 @@ written-on a i j lines old mid new h k l first second =
     }
 
 -- a part of the second of two lists
-block-after : {X : Type 0} (xs ys : List X) (i j m n : ℕ) → i ≡ length xs + m → j ≡ length xs + n →
+pub block-after : {X : Type 0} (xs ys : List X) (i j m n : ℕ) → i ≡ length xs + m → j ≡ length xs + n →
     block i j (xs ++ ys) ≡ block m n ys
 block-after [] ys i j m n e f =
     ap (λ t. block t j ys) (let g : i ≡ m = omega arith in g) ∙ ap (λ t. block m t ys) (let g : j ≡ n = omega arith in g)

@@ -3,6 +3,7 @@ pub mod Marks
 pub mod Swaps
 pub mod Flagged
 pub mod Blocks
+pub mod Cut
 pub mod Kept
 -- what serves clauses inside the crate
 pub mod Shifts

@@ -2,14 +2,15 @@
 ghost use Rattle.std.specs.Prelude.{◌≡◌, ◌+◌, ◌<◌, ◌≤◌, ◌++◌, ◌∷◌, ℕ, List, [], true, false, length, insert, remove, slice_index_or, slice_set, IfOk, IfErr, OnOk, OnErr, IsOk};
 ghost use Rattle.std.specs.Bool.{OnTrue, OnFalse};
 ghost use Rattle.ed_base.specs.Buffer.{Line, flagged_at, plain_line, texts};
-ghost use Rattle.ed_base.specs.Lines.{AreLines, IsLine, bytes_of, newline};
+ghost use Rattle.ed_base.specs.Lines.{AreLines, IsLine, bytes_of, lines_of, newline};
 ghost use Rattle.ed_base.specs.Parts.{block};
 ghost use Rattle.line_store.specs.Blocks.{CameIn};
+ghost use Rattle.line_store.specs.Cut.{TookIn};
 ghost use Rattle.line_store.specs.Flagged.{FirstFlagged};
 ghost use Rattle.line_store.specs.Kept.{flag_count};
 ghost use Rattle.line_store.specs.Swaps.{swapped};
 
-use crate::{BareLine, Block};
+use crate::{BareLine, Block, FileLines};
 use ed_base::Pieces;
 use std::alloc::{AllocError, Global};
 use std::mem::replace;
@@ -84,6 +85,26 @@ pub trait BareLines: Drop {
         ensures room { 0 < spare self.old → IsOk result }
         ensures spends_one { spare self.old ≤ spare self.new + 1 }
         ensures keeps_room { OnErr result (spare self.old ≤ spare self.new) };
+
+    /// Cuts some of the next lines of a file, of which there is one at least, and puts them after all others.
+    fn take_in(&mut self, file: &mut FileLines) -> Result<(), AllocError>
+        requires some { 0 < length (lines_of file.old) }
+        ensures taken { OnOk result (TookIn (lines_of file.old) (lines_of file.new) (items self.old) (items self.new)) }
+        ensures kept { OnErr result (lines_of file.new ≡ lines_of file.old) }
+        ensures unchanged { OnErr result (items self.new ≡ items self.old) }
+    {
+        let mut rest = file.try_copy()?;
+        let Some(line) = rest.next_line()? else {
+            unreachable!()
+        };
+        match self.insert(self.len(), line.into_bare()) {
+            Ok(()) => {
+                *file = rest;
+                Ok(())
+            }
+            Err(_refused) => Err(AllocError),
+        }
+    }
 
     /// Takes a line out.
     fn remove(&mut self, i: usize) -> BareLine

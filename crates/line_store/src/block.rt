@@ -1,5 +1,5 @@
 //! Blocks of lines outside a store.
-ghost use Rattle.std.specs.Prelude.{◌≡◌, ◌≤◌, [], ◌∷◌, length, vec_capacity, IfErr, IfOk};
+ghost use Rattle.std.specs.Prelude.{◌≡◌, ◌≤◌, [], ◌∷◌, length, map, vec_capacity, IfErr, IfOk};
 ghost use Rattle.ed_base.specs.Buffer.{plain_line, texts};
 ghost use Rattle.ed_base.specs.Lines.{lines_of};
 ghost use Rattle.line_store.specs.Chunks.{joined};
@@ -20,6 +20,12 @@ pub(crate) enum Kind {
     Chunks {
         chunks: Vec<Chunk>,
         /// How many lines there are in all chunks.
+        count: usize,
+    },
+    /// Lines that aren't cut.
+    File {
+        file: FileLines,
+        /// How many there are.
         count: usize,
     },
 }
@@ -106,42 +112,50 @@ impl Block {
         Ok(Block::of_lines(bare))
     }
 
-    /// The lines of a file, which share its bytes. An `Err` comes where there is no memory for them.
+    /// The lines of a file, which share its bytes. Many are counted and not cut. An `Err` comes where there is no memory for them.
     pub fn of_file(file: FileLines) -> Result<Self, AllocError>
         ensures value { IfOk result (λ block. block ≡ lines_of file) }
     {
-        // A few lines don't take a chunk, which has room for many.
         if file.fill_chunk() {
-            Block::in_chunks(file)
-        } else {
-            Block::one_by_one(file)
+            let count = file.count();
+            return Ok(Block::of_counted(file, count));
+        }
+        Ok(Block::of_lines(cut_lines(&file)?))
+    }
+
+    /// The lines of a file, which are so many.
+    pub(crate) fn of_counted(file: FileLines, count: usize) -> Self
+        requires count { count ≡ length (lines_of file) }
+        ensures value { result ≡ lines_of file }
+    {
+        Block {
+            kind: Kind::File { file, count },
         }
     }
 
-    fn one_by_one(mut file: FileLines) -> Result<Self, AllocError>
-        ensures value { IfOk result (λ block. block ≡ lines_of file) }
+    /// How many lines it has.
+    pub(crate) fn len(&self) -> usize
+        ensures value { result ≡ length self.now }
     {
-        let mut lines = Vec::new(file.allocator());
-        while let Some(line) = file.next_line()? {
-            lines.push(line.into_bare())?;
+        match &self.kind {
+            Kind::One(_line) => 1,
+            Kind::Lines(lines) => lines.as_slice().len(),
+            Kind::Chunks { chunks: _, count } => *count,
+            Kind::File { file: _, count } => *count,
         }
-        Ok(Block::of_lines(lines))
     }
 
-    fn in_chunks(mut file: FileLines) -> Result<Self, AllocError>
-        ensures value { IfOk result (λ block. block ≡ lines_of file) }
+    /// Its lines as those of a file, and how many they are, where none of them is cut. Otherwise it comes back.
+    pub(crate) fn into_file(self) -> Result<(FileLines, usize), Block>
+        ensures value { IfOk result (λ made. lines_of made.0 ≡ self) }
+        ensures count { IfOk result (λ made. made.1 ≡ length (lines_of made.0)) }
+        ensures handed_back { IfErr result (λ back. back ≡ self) }
     {
-        let mut chunks = Vec::new(file.allocator());
-        let mut count: usize = 0;
-        'chunks: while !file.is_done() {
-            let chunk = Chunk::of_file(&mut file)?;
-            let Some(more) = count.checked_add(chunk.len()) else {
-                return Err(AllocError);
-            };
-            chunks.push(chunk)?;
-            count = more;
+        let Block { kind } = self;
+        match kind {
+            Kind::File { file, count } => Ok((file, count)),
+            kind => Err(Block { kind }),
         }
-        Ok(Block::of_chunks(chunks, count))
     }
 
     /// Its line, where it was made of a single one; any other comes back.
@@ -170,11 +184,13 @@ impl Block {
                 let copies = copy_chunks(alloc, chunks)?;
                 Ok(Block::of_chunks(copies, *count))
             }
+            Kind::File { file, count } => Ok(Block::of_counted(file.try_copy()?, *count)),
         }
     }
 
+    /// Whether it has chunks, or so many lines that it may have.
     pub(crate) fn is_in_chunks(&self) -> bool {
-        matches!(&self.kind, Kind::Chunks { .. })
+        matches!(&self.kind, Kind::Chunks { .. } | Kind::File { .. })
     }
 
     /// Its lines one by one. Where there is no memory for that it comes back.
@@ -201,6 +217,10 @@ impl Block {
                 }
                 Err(_no_memory) => Err(Block::of_chunks(chunks, count)),
             },
+            Kind::File { file, count } => match cut_lines(&file) {
+                Ok(lines) => Ok(lines),
+                Err(_no_memory) => Err(Block::of_counted(file, count)),
+            },
         }
     }
 
@@ -215,9 +235,45 @@ impl Block {
         let Block { kind } = self;
         match kind {
             Kind::Chunks { chunks, count } => Ok((chunks, count)),
+            Kind::File { file, count } => match cut_chunks(&file) {
+                Ok(made) => Ok(made),
+                Err(_no_memory) => Err(Block::of_counted(file, count)),
+            },
             kind => chunk_of_lines(alloc, Block { kind }.into_lines(alloc)?),
         }
     }
+}
+
+/// The lines of a file one by one.
+fn cut_lines(file: &FileLines) -> Result<Vec<BareLine>, AllocError>
+    ensures value { IfOk result (λ lines. lines.items ≡ map plain_line (lines_of file.now)) }
+{
+    let mut rest = file.try_copy()?;
+    let mut lines = Vec::new(file.allocator());
+    while let Some(line) = rest.next_line()? {
+        lines.push(line.into_bare())?;
+    }
+    Ok(lines)
+}
+
+/// The lines of a file in chunks, and how many they are.
+fn cut_chunks(file: &FileLines) -> Result<(Vec<Chunk>, usize), AllocError>
+    ensures value { IfOk result (λ made. texts (joined made.0.items) ≡ lines_of file.now) }
+    ensures unflagged { IfOk result (λ made. flag_count (joined made.0.items) ≡ 0) }
+    ensures count { IfOk result (λ made. made.1 ≡ length (joined made.0.items)) }
+{
+    let mut rest = file.try_copy()?;
+    let mut chunks = Vec::new(file.allocator());
+    let mut count: usize = 0;
+    'chunks: while !rest.is_done() {
+        let chunk = Chunk::of_file(&mut rest)?;
+        let Some(more) = count.checked_add(chunk.len()) else {
+            return Err(AllocError);
+        };
+        chunks.push(chunk)?;
+        count = more;
+    }
+    Ok((chunks, count))
 }
 
 /// The same for lines that a chunk holds.

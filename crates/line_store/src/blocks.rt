@@ -105,25 +105,31 @@ fn put_each<L: BareLines>(list: Vec<BareLine>, at: usize, lines: &mut L)
     }
 }
 
-/// New lines of the texts of those from place `from` up to `to`.
-pub(crate) fn copy_lines<L: BareLines>(
+/// Puts the lines of a block in place of others of a list of which so many lines have the flag.
+pub(crate) fn exchange_lines<L: BareLines>(
     alloc: Global,
+    flags: usize,
     from: usize,
     to: usize,
-    lines: &L,
-) -> Result<Block, AllocError>
+    new: Block,
+    lines: &mut L,
+) -> Result<Block, Block>
     requires order { from ≤ to }
-    requires last { to ≤ length (L.items lines.now) }
-    ensures value { IfOk result (λ copies. copies ≡ texts (block from to (L.items lines.now))) }
+    requires last { to ≤ length (L.items lines.old) }
+    requires flags { flags ≡ flag_count (L.items lines.old) }
+    ensures taken { IfOk result (λ taken. taken ≡ texts (block from to (L.items lines.old))) }
+    ensures put { OnOk result (CameIn from to new (L.items lines.old) (L.items lines.new)) }
+    ensures handed_back { IfErr result (λ back. back ≡ new) }
+    ensures unchanged { OnErr result (L.items lines.new ≡ L.items lines.old) }
 {
-    if to - from == 1 {
-        return Ok(Block::of_bare(lines.plain_copy(from)?));
+    // Lines that have the flag are taken one by one, without it.
+    if flags > 0 {
+        return exchange_each(alloc, from, to, new, lines);
     }
-    let mut copies = Vec::with_capacity(alloc, to - from)?;
-    for i in from..to {
-        copies.push(lines.plain_copy(i)?)?;
+    match lines.exchange_whole(alloc, from, to, new) {
+        Ok(taken) => Ok(taken),
+        Err(new) => exchange_each(alloc, from, to, new, lines),
     }
-    Ok(Block::of_lines(copies))
 }
 
 /// How many lines from place `from` up to `to` have the flag.

@@ -61,6 +61,7 @@ impl Chunk {
     pub(crate) fn of_file(file: &mut FileLines) -> Result<Self, AllocError>
         ensures lines { IfOk result (λ chunk. lines_of file.old ≡ texts chunk ++ lines_of file.new) }
         ensures count { IfOk result (λ chunk. length chunk ≡ min full (length (lines_of file.old))) }
+        ensures plain { IfOk result (λ chunk. chunk ≡ map plain_line (texts chunk)) }
         ensures unflagged { IfOk result (λ chunk. flag_count chunk ≡ 0) }
     {
         let (ring, run) = file.next_ring()?;

@@ -139,7 +139,7 @@ impl ChunkStarts {
     }
 
     /// Adds a chunk after all others.
-    fn push(&mut self, start: usize)
+    pub(crate) fn push(&mut self, start: usize)
         requires room { length self.old.starts < self.old.room }
         requires order { (k : ℕ) → k < length self.old.starts → slice_index_or self.old.starts k 0 ≤ start }
         ensures length { length self.new.starts ≡ length self.old.starts + 1 }

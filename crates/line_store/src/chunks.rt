@@ -1,5 +1,5 @@
 //! Lines in chunks.
-ghost use Rattle.std.specs.Prelude.{ℕ, ◌≡◌, ◌↔◌, ◌+◌, ◌-◌, ◌*◌, ◌<◌, ◌≤◌, ◌++◌, [], length, ◌^◌, slice_index_or, slice_set, insert, remove, IfOk, IsOk, IsTrue, OnOk};
+ghost use Rattle.std.specs.Prelude.{ℕ, ◌≡◌, ◌↔◌, ◌+◌, ◌-◌, ◌*◌, ◌<◌, ◌≤◌, ◌++◌, [], length, ◌^◌, slice_index_or, slice_set, insert, remove, IfOk, IsOk, IsTrue, OnErr, OnOk};
 ghost use Rattle.ed_base.specs.Buffer.{flagged_at, texts};
 ghost use Rattle.ed_base.specs.Lines.{AreLines, bytes_of};
 ghost use Rattle.ed_base.specs.Parts.{block};
@@ -12,7 +12,7 @@ mod swaps;
 use crate::chunk::{Chunk, FULL};
 use crate::chunk_room::{add_chunks, make_room_at, make_room_first, split_chunk};
 use crate::chunk_starts::ChunkStarts;
-use crate::{BareLine, BareLines, Block, Store};
+use crate::{BareLine, BareLines, Block, FileLines, Store};
 use ed_base::Pieces;
 use std::alloc::{AllocError, Global};
 use std::marker::Model;
@@ -180,6 +180,21 @@ impl ChunkLines {
         let added = add_chunks(&mut self.chunks, count);
         self.starts.count(&self.chunks);
         added
+    }
+
+    /// Puts a chunk after all others.
+    fn push_chunk(&mut self, chunk: Chunk) -> Result<(), AllocError>
+        ensures pushed { OnOk result (joined self.new.chunks ≡ joined self.old.chunks ++ chunk) }
+        ensures unchanged { OnErr result (joined self.new.chunks ≡ joined self.old.chunks) }
+    {
+        let Some(count) = self.count.checked_add(chunk.len()) else {
+            return Err(AllocError);
+        };
+        self.starts.reserve(1)?;
+        self.chunks.push(chunk)?;
+        self.starts.push(self.count);
+        self.count = count;
+        Ok(())
     }
 
     /// Sees that a line may come in at a place, and says in which chunk.
@@ -404,6 +419,14 @@ impl BareLines for ChunkLines {
         };
         let place = at - self.start(k);
         self.put_in(k, place, line);
+        Ok(())
+    }
+
+    fn take_in(&mut self, file: &mut FileLines) -> Result<(), AllocError> {
+        let mut rest = file.try_copy()?;
+        let chunk = Chunk::of_file(&mut rest)?;
+        self.push_chunk(chunk)?;
+        *file = rest;
         Ok(())
     }
 

@@ -2,14 +2,12 @@
 ghost use Rattle.std.specs.Prelude.{◌≡◌, ℕ, ◌<◌, ◌≤◌, ◌-◌, ◌^◌, Bool, List, [], length, true, IfErr, IfOk, OnErr, OnOk, slice_index_or, slice_set};
 ghost use Rattle.ed_base.specs.Buffer.{Line, plain_line, texts};
 ghost use Rattle.ed_base.specs.Parts.{block, exchanged};
-ghost use Rattle.line_store.specs.Blocks.{CameIn};
 ghost use Rattle.line_store.specs.Kept.{Unflagged, flag_count, lines_of};
 ghost use Rattle.line_store.specs.Swaps.{swapped};
 
-use crate::blocks::{copy_lines, exchange_each, flags_among};
+use crate::cut_lines::CutLines;
 use crate::flag_counts::flags_exchanged;
 use crate::marks::Marks;
-use crate::swaps::swap_blocks;
 use crate::{BareLine, BareLines, Block, Line, LineStore};
 use ed_base::{Letter, Pieces};
 use std::alloc::{AllocError, Global};
@@ -20,7 +18,7 @@ use std::marker::Model;
 #[derive(Drop)]
 pub struct Store<L: BareLines> {
     alloc: Global,
-    lines: L,
+    lines: CutLines<L>,
     marks: Marks,
     // No line before this place has the flag, so the search for the next one goes on from here.
     unflagged: usize,
@@ -35,14 +33,15 @@ impl<L: BareLines> Model for Store<L> {
     ghost use Rattle.std.specs.Prelude.{length};
     ghost use Rattle.line_store.specs.Marks.{AllBelow};
     ghost use Rattle.std.specs.Prelude.{◌≡◌};
+    ghost use Rattle.line_store.specs.Cut.{all_lines};
     ghost use Rattle.line_store.specs.Kept.{StoreValue, Unflagged, flag_count};
 
     ghost Value = { StoreValue };
 
-    ghost view = { λ s. record { items = L.items s.lines; marks = s.marks } };
+    ghost view = { λ s. record { items = all_lines s.lines; marks = s.marks } };
 
-    ghost invariant = { λ s. AllBelow (length (L.items s.lines)) s.marks × Unflagged s.unflagged (L.items s.lines)
-        × (s.flags ≡ flag_count (L.items s.lines)) };
+    ghost invariant = { λ s. AllBelow (length (all_lines s.lines)) s.marks × Unflagged s.unflagged (all_lines s.lines)
+        × (s.flags ≡ flag_count (all_lines s.lines)) };
 }
 
 /// Before which place no line has the flag, once a line has come in place of another.
@@ -82,33 +81,6 @@ fn place_swapped(place: usize, low: usize, middle: usize, high: usize) -> usize
     place
 }
 
-/// Puts the lines of a block in place of others of a list of which so many lines have the flag.
-fn exchange_lines<L: BareLines>(
-    alloc: Global,
-    flags: usize,
-    from: usize,
-    to: usize,
-    new: Block,
-    lines: &mut L,
-) -> Result<Block, Block>
-    requires order { from ≤ to }
-    requires last { to ≤ length (L.items lines.old) }
-    requires flags { flags ≡ flag_count (L.items lines.old) }
-    ensures taken { IfOk result (λ taken. taken ≡ texts (block from to (L.items lines.old))) }
-    ensures put { OnOk result (CameIn from to new (L.items lines.old) (L.items lines.new)) }
-    ensures handed_back { IfErr result (λ back. back ≡ new) }
-    ensures unchanged { OnErr result (L.items lines.new ≡ L.items lines.old) }
-{
-    // Lines that have the flag are taken one by one, without it.
-    if flags > 0 {
-        return exchange_each(alloc, from, to, new, lines);
-    }
-    match lines.exchange_whole(alloc, from, to, new) {
-        Ok(taken) => Ok(taken),
-        Err(new) => exchange_each(alloc, from, to, new, lines),
-    }
-}
-
 impl<L: BareLines> Store<L> {
     /// The lines from place `low` up to `middle` and those from there up to `high` change places, with their letters and flags.
     fn swap_blocks(&mut self, low: usize, middle: usize, high: usize) -> Result<(), AllocError>
@@ -118,7 +90,7 @@ impl<L: BareLines> Store<L> {
         ensures swapped { OnOk result (lines_of self.new ≡ swapped low middle high (lines_of self.old)) }
         ensures unchanged { OnErr result (lines_of self.new ≡ lines_of self.old) }
     {
-        swap_blocks(&mut self.lines, low, middle, high)?;
+        self.lines.swap_blocks(low, middle, high)?;
         self.marks.swap_places(low, middle, high);
         self.unflagged = place_swapped(self.unflagged, low, middle, high);
         Ok(())
@@ -133,7 +105,7 @@ impl<L: BareLines> Store<L> {
         if self.flags == 0 {
             return 0;
         }
-        flags_among(from, to, &self.lines)
+        self.lines.flags_among(from, to)
     }
 }
 
@@ -150,7 +122,7 @@ impl<L: BareLines> LineStore for Store<L> {
     fn empty(alloc: Global) -> Result<Self, AllocError> {
         Ok(Store {
             alloc,
-            lines: L::empty(alloc)?,
+            lines: CutLines::empty(alloc)?,
             marks: Marks::none(),
             unflagged: 0,
             flags: 0,
@@ -163,6 +135,10 @@ impl<L: BareLines> LineStore for Store<L> {
 
     fn text(&self, i: usize) -> &[u8] {
         self.lines.text(i)
+    }
+
+    fn open(&mut self, to: usize) -> Result<(), AllocError> {
+        self.lines.open(to.min(self.lines.len()))
     }
 
     fn push_lines(&self, from: usize, to: usize, output: &mut Pieces) -> Result<(), AllocError> {
@@ -191,7 +167,9 @@ impl<L: BareLines> LineStore for Store<L> {
     fn exchange_block(&mut self, from: usize, to: usize, new: Block) -> Result<Block, Block> {
         let count = self.lines.len();
         let flags = self.flags_among(from, to);
-        let taken = exchange_lines(self.alloc, self.flags, from, to, new, &mut self.lines)?;
+        let taken = self
+            .lines
+            .exchange_block(self.alloc, self.flags, from, to, new)?;
         let entered = self.lines.len() - (count - (to - from));
         self.marks.exchange_places(from, to, count, entered);
         self.unflagged = place_replaced(self.unflagged, from, to, entered);
@@ -200,7 +178,7 @@ impl<L: BareLines> LineStore for Store<L> {
     }
 
     fn copy_block(&self, from: usize, to: usize) -> Result<Block, AllocError> {
-        copy_lines(self.alloc, from, to, &self.lines)
+        self.lines.copy_block(self.alloc, from, to)
     }
 
     fn carry(&mut self, from: usize, to: usize, place: usize) -> Result<(), AllocError> {

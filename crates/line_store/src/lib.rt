@@ -8,6 +8,7 @@ mod chunk;
 mod chunk_room;
 mod chunk_starts;
 mod chunks;
+mod cut_lines;
 mod extent;
 mod flag_counts;
 mod gap;

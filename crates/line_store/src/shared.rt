@@ -1,8 +1,10 @@
 //! Lines without letters, which may share the block that their bytes stand in.
-ghost use Rattle.std.specs.Prelude.{◌≡◌, ◌↔◌, ◌+◌, ◌≤◌, [], ◌∷◌, ◌++◌, length, min, nat_eq, slice_range, IsNone, IsTrue, IfOk, IfSome, OnOk, OnErr};
+ghost use Rattle.std.specs.Prelude.{◌≡◌, ◌↔◌, ◌+◌, ◌<◌, ◌≤◌, [], ◌∷◌, ◌++◌, drop, length, map, min, nat_eq, slice_index_or, slice_range, take, IsNone, IsTrue, IfOk, IfSome, OnOk, OnErr};
+ghost use Rattle.std.specs.Bool.{OnTrue, OnFalse};
 ghost use Rattle.std.specs.VecDeque.{deque_capacity};
-ghost use Rattle.ed_base.specs.Lines.{newline, IsLine, lines_of};
+ghost use Rattle.ed_base.specs.Lines.{newline, IsLine, bytes_of, lines_of};
 ghost use Rattle.ed_base.specs.Buffer.{plain_line, texts, with_flag};
+ghost use Rattle.ed_base.specs.Parts.{block};
 ghost use Rattle.line_store.specs.Chunks.{full};
 ghost use Rattle.line_store.specs.Kept.{flag_count};
 ghost use Rattle.line_store.specs.Runs.{RunOf};
@@ -11,7 +13,7 @@ use crate::Line;
 use crate::chunk::FULL;
 use crate::extent::{Extent, WHOLE};
 use crate::run::LineRun;
-use ed_base::{Bytes, Pieces, next_line};
+use ed_base::{Bytes, Pieces, count_lines, next_line};
 use std::alloc::{AllocError, Global};
 use std::collections::VecDeque;
 use std::marker::Model;
@@ -172,6 +174,17 @@ impl Model for FileLines {
     ghost invariant = { λ f. f.next ≤ length f.block.value };
 }
 
+/// Whether a newline ends the bytes, or there are none.
+fn is_ended(bytes: &[u8]) -> bool
+    ensures ended { OnTrue result (bytes_of (lines_of bytes.now) ≡ bytes.now) }
+    ensures lacks { OnFalse result (bytes_of (lines_of bytes.now) ≡ bytes.now ++ newline ∷ []) }
+{
+    match bytes {
+        [] => true,
+        [_front @ .., last] => *last == b'\n',
+    }
+}
+
 impl FileLines {
     /// All lines of these bytes are to come.
     pub fn new(alloc: Global, bytes: Bytes) -> Result<Self, AllocError>
@@ -216,6 +229,7 @@ impl FileLines {
         ensures lines { IfOk result (λ (ring, run). lines_of self.old ≡ texts ring.items ++ lines_of self.new) }
         ensures count { IfOk result (λ (ring, run). length ring.items ≡ min full (length (lines_of self.old))) }
         ensures room { IfOk result (λ (ring, run). full ≤ deque_capacity ring) }
+        ensures plain { IfOk result (λ (ring, run). ring.items ≡ map plain_line (texts ring.items)) }
         ensures unflagged { IfOk result (λ (ring, run). flag_count ring.items ≡ 0) }
         ensures run { IfOk result (λ (ring, run). RunOf run ring.items) }
         ensures unchanged { OnErr result (self.new ≡ self.old) }
@@ -237,6 +251,119 @@ impl FileLines {
         let run = LineRun::of(&self.block, self.next, next, ended)?;
         self.next = next;
         Ok((VecDeque::from_vec(row), run))
+    }
+
+    /// The same lines once more, of the same bytes. An `Err` comes only where more share the bytes than can be counted.
+    pub(crate) fn try_copy(&self) -> Result<Self, AllocError>
+        ensures value { IfOk result (λ copy. copy ≡ self.now) }
+    {
+        Ok(FileLines {
+            alloc: self.alloc,
+            block: self.block.clone()?,
+            next: self.next,
+        })
+    }
+
+    /// How many lines there are. Their newlines are counted, and no line is cut.
+    pub(crate) fn count(&self) -> usize
+        ensures value { result ≡ length (lines_of self.now) }
+    {
+        count_lines(&self.block.as_slice()[self.next..])
+    }
+
+    /// The bytes of a line. All lines before it are passed.
+    pub(crate) fn text(&self, i: usize) -> &[u8]
+        requires place { i < length (lines_of self.now) }
+        ensures value { result.now ≡ slice_index_or (lines_of self.now) i [] }
+        ensures line { IsLine result.now }
+    {
+        let mut rest = &self.block.as_slice()[self.next..];
+        for _i in 0..i {
+            let Some((_line, after)) = next_line(rest) else {
+                unreachable!()
+            };
+            rest = after;
+        }
+        let Some((line, _after)) = next_line(rest) else {
+            unreachable!()
+        };
+        line
+    }
+
+    /// Passes so many lines. An `Err` comes where `next_line` has one.
+    pub(crate) fn skip(&mut self, n: usize) -> Result<(), AllocError>
+        requires enough { n ≤ length (lines_of self.old) }
+        ensures left { OnOk result (lines_of self.new ≡ drop n (lines_of self.old)) }
+    {
+        for _i in 0..n {
+            let Some(_line) = self.next_line()? else {
+                unreachable!()
+            };
+        }
+        Ok(())
+    }
+
+    /// Appends the bytes of the next lines, each with a newline, line by line.
+    pub(crate) fn push_next(&mut self, n: usize, output: &mut Pieces) -> Result<(), AllocError>
+        requires enough { n ≤ length (lines_of self.old) }
+        ensures appended { OnOk result (output.new ≡ output.old ++ bytes_of (take n (lines_of self.old))) }
+    {
+        for _i in 0..n {
+            let Some(line) = self.next_line()? else {
+                unreachable!()
+            };
+            line.into_bare().push_to(output)?;
+        }
+        Ok(())
+    }
+
+    /// Appends the bytes of all lines, each with a newline, at once. They share the block.
+    pub(crate) fn push_all(&self, output: &mut Pieces) -> Result<(), AllocError>
+        ensures appended { OnOk result (output.new ≡ output.old ++ bytes_of (lines_of self.now)) }
+    {
+        let bytes = self.block.as_slice();
+        output.extend_from_block(&self.block, self.next, bytes.len())?;
+        if is_ended(&bytes[self.next..]) {
+            return Ok(());
+        }
+        output.extend_from_slice(b"\n")
+    }
+
+    /// A new line of a line's bytes, which both share. An `Err` comes where `next_line` has one.
+    pub(crate) fn plain_copy(&self, i: usize) -> Result<BareLine, AllocError>
+        requires place { i < length (lines_of self.now) }
+        ensures value { IfOk result (λ line. line ≡ plain_line (slice_index_or (lines_of self.now) i [])) }
+    {
+        let mut rest = self.try_copy()?;
+        rest.skip(i)?;
+        match rest.next_line()? {
+            Some(line) => Ok(line.into_bare()),
+            None => unreachable!(),
+        }
+    }
+
+    /// Appends the bytes of the lines from place `from` up to `to`, of so many, each with a newline.
+    pub(crate) fn push_lines(
+        &self,
+        from: usize,
+        to: usize,
+        count: usize,
+        output: &mut Pieces,
+    ) -> Result<(), AllocError>
+        requires order { from ≤ to }
+        requires last { to ≤ count }
+        requires count { count ≡ length (lines_of self.now) }
+        ensures appended { OnOk result (output.new ≡ output.old ++ bytes_of (block from to (lines_of self.now))) }
+    {
+        if from == to {
+            return Ok(());
+        }
+        let mut rest = self.try_copy()?;
+        rest.skip(from)?;
+        if to == count {
+            return rest.push_all(output);
+        }
+        rest.push_next(to - from, output)
     }
 
     /// Whether there are as many lines as fill a chunk.

@@ -28,6 +28,11 @@ pub trait LineStore: Drop {
         ensures value { result.now ≡ (slice_index_or (lines self.now) i (plain_line [])).bytes }
         ensures line { IsLine result.now };
 
+    /// Makes ready to ask for the first `to` lines one by one. Before that, and where there is no memory for it, each may cost a look at
+    /// all lines before it. The lines are the same.
+    fn open(&mut self, to: usize) -> Result<(), AllocError>
+        ensures unchanged { lines self.new ≡ lines self.old };
+
     /// Appends the bytes of the lines from place `from` up to `to`, each with a newline. They are shared with the lines as far as
     /// their blocks have them.
     fn push_lines(&self, from: usize, to: usize, output: &mut Pieces) -> Result<(), AllocError>

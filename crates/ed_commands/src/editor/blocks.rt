@@ -209,6 +209,7 @@ pub fn copy_block<S: LineStore>(
         (S.lines store.new ≡ inserted target (map plain_line (texts (block from to (S.lines store.old)))) (S.lines store.old)) }
     ensures no_fewer { length (S.lines store.old) ≤ length (S.lines store.new) }
 {
+    store.open(to)?;
     let copies = store.copy_block(from, to)?;
     exchange_whole(target, target, copies, store)?;
     Ok(())

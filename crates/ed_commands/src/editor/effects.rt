@@ -1,16 +1,17 @@
 //! What each command does to the buffer.
-ghost use Rattle.std.specs.Prelude.{◌≡◌, ◌≢◌, ◌≤◌, Some, IfOk, IsOkAnd, OnOk, MatchResult};
+ghost use Rattle.std.specs.Prelude.{◌≡◌, ◌≢◌, ◌≤◌, ◌++◌, Some, IfOk, IsOkAnd, OnOk, MatchResult};
 ghost use Rattle.ed_base.specs.declared.fault.Fault.TheVariants.{Memory};
 ghost use Rattle.ed_syntax.specs.PublicTypes.{form_value, suffix_value, verb_value};
 ghost use Rattle.ed_syntax.specs.meaning.States.{last};
 ghost use Rattle.ed_syntax.specs.meaning.Verbs.{takes};
 ghost use Rattle.ed_syntax.specs.meaning.Effects as effect;
+ghost use Rattle.ed_syntax.specs.meaning.Forms.{lines_written};
 ghost use Rattle.ed_syntax.specs.meaning.Applied.{effect_of};
 ghost use Rattle.ed_commands.specs.Editors.{Fits, Leaves, left_by, span_value, suffixed};
 
 use crate::editor::Editor;
 use crate::editor::addressing::{Addressed, Span};
-use crate::editor::lines::write_lines;
+use crate::editor::lines::{looked_at, write_lines};
 use crate::editor::past::Before;
 use ed_base::{Bytes, Fault, Letter, Pieces, Text, push_number};
 use ed_syntax::{Answer, Form, Verb};
@@ -126,19 +127,34 @@ impl<S: LineStore> Editor<S> {
         ensures failed { self.new.failed ≡ self.old.failed }
     {
         let mut output = Pieces::new(self.alloc);
-        write_lines(self.alloc, &mut output, form, span, &self.store)?;
+        self.push_span(form, span, &mut output)?;
         self.current = span.last;
         Ok(output)
     }
 
+    /// Appends the lines of a span, as the form writes them.
+    fn push_span(&mut self, form: Form, span: Span, output: &mut Pieces) -> Result<(), AllocError>
+        requires first { 1 ≤ span.first }
+        requires order { span.first ≤ span.last }
+        requires last { span.last ≤ last self.old.state }
+        ensures appended { OnOk result
+            (output.new ≡ output.old ++ lines_written (form_value form) span.first span.last self.old.state.lines) }
+        ensures unchanged { self.new ≡ self.old }
+    {
+        let last = self.store.len();
+        self.open_lines(looked_at(form, span, last))?;
+        write_lines(self.alloc, output, form, span, &self.store)
+    }
+
     /// Appends what a suffix writes, the new current line, to a command's output.
     pub(crate) fn write_suffix(
-        &self,
+        &mut self,
         suffix: Option<Form>,
         mut output: Pieces,
     ) -> Result<Pieces, Fault>
-        ensures exact { let expected = suffixed output (suffix_value suffix) self.now.state in
+        ensures exact { let expected = suffixed output (suffix_value suffix) self.old.state in
             MatchResult result (λ all. expected ≡ Ok all) (λ fault. fault ≢ Memory → expected ≡ Err fault) }
+        ensures unchanged { self.new ≡ self.old }
     {
         let Some(form) = suffix else {
             return Ok(output);
@@ -150,7 +166,7 @@ impl<S: LineStore> Editor<S> {
             first: self.current,
             last: self.current,
         };
-        write_lines(self.alloc, &mut output, form, here, &self.store)?;
+        self.push_span(form, here, &mut output)?;
         Ok(output)
     }
 }

@@ -13,10 +13,11 @@ ghost use Rattle.ed_commands.specs.Editors.{Fits, Leaves, Tells, naming, span_va
 use crate::editor::Editor;
 use crate::editor::addressing::Span;
 use crate::editor::blocks::file_of;
+use crate::editor::lines::looked_at;
 use crate::editor::past::Before;
 use crate::editor::remembered::Remembered;
 use ed_base::{Bytes, Fault, Pieces};
-use ed_syntax::{Answer, Command, Request, Verb};
+use ed_syntax::{Answer, Command, Form, Request, Verb};
 use line_store::LineStore;
 use std::alloc::AllocError;
 use std::rc::Rc;
@@ -59,11 +60,12 @@ impl<S: LineStore> Editor<S> {
     }
 
     /// What a command asks for at the lines of a span.
-    fn wanted(&self, verb: &Verb, span: Span) -> Result<Request, Fault>
+    fn wanted(&mut self, verb: &Verb, span: Span) -> Result<Request, Fault>
         requires asks { IsTrue (asks (verb_value verb.now)) }
-        requires fits { Fits (takes (verb_value verb.now)).taking span (last self.now.state) }
+        requires fits { Fits (takes (verb_value verb.now)).taking span (last self.old.state) }
         ensures exact { (listed : Bool) (target : ℕ) →
-            Tells Asks (effect_of (verb_value verb.now) listed (span_value span) target self.now.state None) result }
+            Tells Asks (effect_of (verb_value verb.now) listed (span_value span) target self.old.state None) result }
+        ensures unchanged { self.new ≡ self.old }
     {
         match verb {
             Verb::ReadFile(path) | Verb::EditAnyway(path) => {
@@ -76,6 +78,8 @@ impl<S: LineStore> Editor<S> {
             }
             Verb::WriteFile(path) => {
                 let path = self.used_path(path)?;
+                let last = self.store.len();
+                self.open_lines(looked_at(Form::Plain, span, last))?;
                 let bytes = file_of(self.alloc, span.first - 1, span.last, &self.store)?;
                 Ok(Request::Write(path, bytes))
             }

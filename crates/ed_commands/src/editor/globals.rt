@@ -67,6 +67,7 @@ fn flag_block<S: LineStore>(
     ensures count { length (S.lines store.new) ≡ length (S.lines store.old) }
     ensures kept { pattern.new ≡ pattern.old }
 {
+    store.open(to)?;
     let learned = pattern.take_learned(alloc);
     let mut searcher = pattern.searcher(learned);
     for i in from..to {

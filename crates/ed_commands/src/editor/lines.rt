@@ -13,6 +13,16 @@ use ed_syntax::Form;
 use line_store::{Block, FileLines, LineStore};
 use std::alloc::{AllocError, Global};
 
+/// Up to which line of so many each is looked at for itself where a span is written. Plain lines up to the last one are written at once.
+pub fn looked_at(form: Form, span: Span, last: usize) -> usize
+    requires first { 1 ≤ span.first }
+{
+    match form {
+        Form::Plain if span.last == last => span.first - 1,
+        Form::Plain | Form::Numbered | Form::Unambiguous => span.last,
+    }
+}
+
 /// Appends the lines of a span, as the form writes them. Plain lines share their bytes with the store, unless they are short and
 /// stand alone.
 pub fn write_lines<S: LineStore>(

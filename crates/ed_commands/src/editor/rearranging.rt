@@ -26,6 +26,7 @@ impl<S: LineStore> Editor<S> {
         if span.first == span.last {
             return Ok(());
         }
+        self.open_lines(span.last)?;
         let joined = join_block(self.alloc, span.first - 1, span.last, &self.store)?;
         let mut lines = Vec::with_capacity(self.alloc, 1)?;
         lines.push_reserved(joined);

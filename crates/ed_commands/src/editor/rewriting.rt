@@ -66,6 +66,7 @@ pub fn rewrite_lines<S: LineStore>(
     ensures remembered { pattern.new ≡ pattern.old }
 {
     let count = store.len();
+    store.open(span.last)?;
     let mut made = None;
     let learned = pattern.take_learned(alloc);
     let mut searcher = pattern.searcher(learned);

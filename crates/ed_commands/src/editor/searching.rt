@@ -124,6 +124,7 @@ impl<S: LineStore> Editor<S> {
         ensures unchanged { SameButPattern self.old self.new }
     {
         self.remember(own)?;
+        self.open_lines(usize::MAX)?;
         let Some(pattern) = &mut self.pattern else {
             return Err(Fault::Pattern);
         };

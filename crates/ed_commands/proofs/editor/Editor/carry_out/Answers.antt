@@ -32,8 +32,9 @@ returns-clause-exact g c =
     let before : Before = record { current = c.self.inside.current; listed = given.listed } in
     let same = ap (λ a. effect_of given.verb given.listed at.span at.target at.state (Some a)) c.unwrap_or-given.ensures
     ∙ any-answer given.verb given.listed at.span at.target at.state c.args.answer c.requires.answered in
-    done c.args.self.now.state c.effect.new.self.state given at before c.args.answer c.in_ok-output.output c.write_suffix.result
+    rw (ap (λ v. v.state) c.write_suffix.ensures.unchanged)
+    (done c.args.self.now.state c.effect.new.self.state given at before c.args.answer c.in_ok-output.output c.write_suffix.result
     c.in_ok-named.ensures.lines (ap (λ v. v.state.current) c.self.view_is)
     (omega (arith, c.self.invariant, ap (λ v. v.state.current) c.self.view_is, ap (λ v. last v.state) c.self.view_is)) refl
     c.in_ok-named.ensures.exact
-    (subst (λ e. IsOkAnd e (Leaves before at.state c.effect.new.self.state c.in_ok-output.output)) same c.in_ok-output.ensures.exact) c.write_suffix.ensures.exact
+    (subst (λ e. IsOkAnd e (Leaves before at.state c.effect.new.self.state c.in_ok-output.output)) same c.in_ok-output.ensures.exact) c.write_suffix.ensures.exact)

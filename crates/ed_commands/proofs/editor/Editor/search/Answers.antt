@@ -15,7 +15,7 @@ returns-clause-exact g c =
     let after = held lines e.current (Some c.first_match.new.pattern) e.replacement e.name e.changed e.past in
     let own = c.args.own.now in
     let before = c.args.self.now.state in
-    let is : now ≡ c.remember.new.self.state = ap (λ v. v.state) c.self.view_is in
+    let is : now ≡ c.remember.new.self.state = ap (λ v. v.state) (c.self.view_is ∙ c.in_ok-open_lines.ensures.unchanged) in
     let left = leaves before c.remember.new.self.state own (ap (λ v. v.state) c.in_ok-remember.ensures.others) c.in_ok-remember.ensures.remembered in
     let same : after ≡ now =
     ap (λ p. held lines e.current p e.replacement e.name e.changed e.past) (ap (λ t. Some t) c.in_ok-found.ensures.kept ∙ sym c.in-Some.is) in

@@ -1,5 +1,5 @@
 -- One more line stays, or gives way to those that come of it.
-use Rattle.std.proofs.Common.{◌≡◌, ◌<◌, ◌+◌, ◌-◌, ◌++◌, ◌∙◌, [], not, true, false, Some, None, option_map, map, length, get_or, refl, sym, ap, subst, arith, rules}
+use Rattle.std.proofs.Common.{◌≡◌, ◌<◌, ◌+◌, ◌-◌, ◌++◌, ◌∙◌, [], not, true, false, Some, None, option_map, map, length, get_or, sym, ap, subst, arith, rules}
 use Rattle.std.specs.Prelude.{is_some, Ok}
 use Rattle.std.proofs.lemmas.List.{take-append-drop, length-append}
 use Rattle.bre_parse.specs.Grammar.{pattern}
@@ -17,16 +17,18 @@ loop-i-init g c =
     let old = g.S.LineStore.lines c.args.store.now in
     let from = c.args.span.first - 1 in
     let f = made_of c.args.pattern.now c.args.replacement.now c.args.which.now in
-    let put : old ≡ exchanged from from (each f (block from from old)).0 old =
-    sym (ap (λ t. exchanged from from (each f t).0 old) (block-none from old) ∙ take-append-drop from old) in
+    let now = g.S.LineStore.lines c.open.new.self in
+    let same : now ≡ old = c.in_ok-open.ensures.unchanged in
+    let put : now ≡ exchanged from from (each f (block from from old)).0 old =
+    same ∙ sym (ap (λ t. exchanged from from (each f t).0 old) (block-none from old) ∙ take-append-drop from old) in
     record {
       put = put;
-      long = counted from from (each f (block from from old)).0 old old (omega arith) (omega (arith, c.requires.last, c.requires.order, c.requires.first)) put;
+      long = counted from from (each f (block from from old)).0 old now (omega arith) (omega (arith, c.requires.last, c.requires.order, c.requires.first)) put;
       made = ap (λ t. option_map (λ n. from + n) (each f t).1) (sym (block-none from old));
-      kept = refl;
-      untouched = refl;
+      kept = ap (λ t. earlier_of c.args.past.now (texts t)) same;
+      untouched = same;
       within = search rules;
-      no_fewer = omega arith;
+      no_fewer = omega (arith, ap length same);
       searches = ap pattern (sym c.take_learned-learned.ensures.kept) ∙ c.searcher-searcher.ensures.searches;
     }
 

@@ -1,5 +1,6 @@
 -- The lines have gone with their letters and flags.
 use Rattle.std.proofs.Common.{◌≤◌, ◌∙◌, ap, sym, subst, length, arith}
+use Rattle.line_store.specs.Cut.{all_lines}
 use Rattle.line_store.specs.Marks.{AllBelow}
 use Rattle.line_store.specs.Shifts.{places_swapped}
 use Rattle.line_store.specs.Kept.{lines_of}
@@ -11,7 +12,7 @@ use Rattle.line_store.proofs.kept.Store.swap_blocks.Goals as goal
 pub invariant_of-self-2 : goal.invariant_of-self-2
 invariant_of-self-2 g c =
     let e = c.self.inside in
-    let lines = g.L.BareLines.items e.lines in
+    let lines = all_lines e.lines in
     let low = c.args.low in
     let middle = c.args.middle in
     let high = c.args.high in
@@ -28,7 +29,7 @@ invariant_of-self-2 g c =
 pub returns-clause-swapped : goal.returns-clause-swapped
 returns-clause-swapped g c =
     let e = c.self.inside in
-    let lines = g.L.BareLines.items e.lines in
+    let lines = all_lines e.lines in
     let low = c.args.low in
     let middle = c.args.middle in
     let high = c.args.high in

@@ -1,6 +1,7 @@
 -- The new line's letters are at its place, and those of the line before it have gone with that.
 use Rattle.std.proofs.Common.{◌≡◌, ◌<◌, ◌∙◌, ap, sym, subst, length, length-set, arith, remove, set, get_or, []}
 use Rattle.ed_base.specs.Buffer.{plain_line, SharesNoLetter}
+use Rattle.line_store.specs.Cut.{all_lines}
 use Rattle.line_store.specs.Marks.{AllBelow, lettered}
 use Rattle.line_store.specs.Shifts.{without_line}
 use Rattle.line_store.specs.Kept.{lines_of, Unflagged, flag_count}
@@ -9,15 +10,15 @@ use Rattle.line_store.proofs.Flags.{flag-at, exchanged-places, exchanged-below, 
 use Rattle.line_store.proofs.kept.StoreLineStore.exchange.Goals as goal
 
 pub exchange-requires : goal.exchange-requires
-exchange-requires g c = omega (arith, c.requires.place, length-lettered c.self.inside.marks 0 (g.L.BareLines.items c.self.inside.lines), ap (λ v. length (lines_of v)) c.self.view_is)
+exchange-requires g c = omega (arith, c.requires.place, length-lettered c.self.inside.marks 0 (all_lines c.self.inside.lines), ap (λ v. length (lines_of v)) c.self.view_is)
 
 pub invariant_of-self : goal.invariant_of-self
 invariant_of-self g c =
     let e = c.self.inside in
-    let lines = g.L.BareLines.items e.lines in
+    let lines = all_lines e.lines in
     let place : c.args.i < length lines = omega (arith, c.requires.place, length-lettered e.marks 0 lines, ap (λ v. length (lines_of v)) c.self.view_is) in
     let bare = c.line.inside.bare in
-    let long : length lines ≡ length (g.L.BareLines.items c.exchange.new.self) = sym (ap length c.in-Ok.ensures.exchanged ∙ length-set lines c.args.i bare) in (
+    let long : length lines ≡ length (all_lines c.exchange.new.self) = sym (ap length c.in-Ok.ensures.exchanged ∙ length-set lines c.args.i bare) in (
       subst (λ n. AllBelow n c.pass_on-letters.new.self) long (subst (AllBelow (length lines)) (sym c.pass_on-letters.ensures.value)
           (exchanged-below e.marks c.args.i c.line.inside.letters lines bare place c.self.invariant.0)),
       subst (Unflagged c.place_exchanged-self-inside.result) (sym c.in-Ok.ensures.exchanged)
@@ -31,7 +32,7 @@ invariant_of-self g c =
 pub returns-in-Ok-clause-value : goal.returns-in-Ok-clause-value
 returns-in-Ok-clause-value g c =
     let e = c.self.inside in
-    let lines = g.L.BareLines.items e.lines in
+    let lines = all_lines e.lines in
     let place : c.args.i < length lines = omega (arith, c.requires.place, length-lettered e.marks 0 lines, ap (λ v. length (lines_of v)) c.self.view_is) in
     rw c.pass_on-letters.ensures.letters (
     sym (lettered-at e.marks lines c.args.i c.in-Ok.before place c.in-Ok.ensures.value)
@@ -40,7 +41,7 @@ returns-in-Ok-clause-value g c =
 pub returns-in-Ok-clause-exchanged : goal.returns-in-Ok-clause-exchanged
 returns-in-Ok-clause-exchanged g c =
     let e = c.self.inside in
-    let lines = g.L.BareLines.items e.lines in
+    let lines = all_lines e.lines in
     let bare = c.line.inside.bare in
     let letters = c.line.inside.letters in
     let place : c.args.i < length lines = omega (arith, c.requires.place, length-lettered e.marks 0 lines, ap (λ v. length (lines_of v)) c.self.view_is) in

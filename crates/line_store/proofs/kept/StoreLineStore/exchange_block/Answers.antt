@@ -2,6 +2,7 @@
 use Rattle.std.proofs.Common.{◌≡◌, ◌+◌, ◌-◌, ◌≤◌, ◌∙◌, ap, subst, length, map, arith}
 use Rattle.ed_base.specs.Buffer.{plain_line, texts}
 use Rattle.ed_base.specs.Parts.{block, exchanged}
+use Rattle.line_store.specs.Cut.{all_lines}
 use Rattle.line_store.specs.Marks.{AllBelow, lettered}
 use Rattle.line_store.specs.Shifts.{places_exchanged}
 use Rattle.line_store.specs.Kept.{flag_count, lines_of}
@@ -13,17 +14,17 @@ pub flags_among-flags-requires-clause-last : goal.flags_among-flags-requires-cla
 flags_among-flags-requires-clause-last g c =
     omega (arith, c.requires.last, length-lettered c.args.self.now.marks 0 c.args.self.now.items)
 
-pub exchange_lines-requires-clause-last : goal.exchange_lines-requires-clause-last
-exchange_lines-requires-clause-last g c =
-    omega (arith, c.requires.last, length-lettered c.self.inside.marks 0 (g.L.BareLines.items c.self.inside.lines), ap (λ v. length (lines_of v)) c.self.view_is)
+pub exchange_block-requires-clause-last : goal.exchange_block-requires-clause-last
+exchange_block-requires-clause-last g c =
+    omega (arith, c.requires.last, length-lettered c.self.inside.marks 0 (all_lines c.self.inside.lines), ap (λ v. length (lines_of v)) c.self.view_is)
 
 pub overflow_sub-entered-2 : goal.overflow_sub-entered-2
 overflow_sub-entered-2 g c =
-    omega (arith, c.len-count.ensures.value, c.requires.last, length-lettered c.self.inside.marks 0 (g.L.BareLines.items c.self.inside.lines), ap (λ v. length (lines_of v)) c.self.view_is)
+    omega (arith, c.len-count.ensures.value, c.requires.last, length-lettered c.self.inside.marks 0 (all_lines c.self.inside.lines), ap (λ v. length (lines_of v)) c.self.view_is)
 
 pub overflow_sub-entered-3 : goal.overflow_sub-entered-3
 overflow_sub-entered-3 g c =
-    let lines = g.L.BareLines.items c.self.inside.lines in
+    let lines = all_lines c.self.inside.lines in
     let came = c.in_ok-taken.ensures.put in
     let within : c.args.to ≤ c.len-count.result =
     omega (arith, c.len-count.ensures.value, c.requires.last, length-lettered c.self.inside.marks 0 lines, ap (λ v. length (lines_of v)) c.self.view_is) in
@@ -31,11 +32,11 @@ overflow_sub-entered-3 g c =
 
 pub exchange_places-requires-clause-last : goal.exchange_places-requires-clause-last
 exchange_places-requires-clause-last g c =
-    omega (arith, c.len-count.ensures.value, c.requires.last, length-lettered c.self.inside.marks 0 (g.L.BareLines.items c.self.inside.lines), ap (λ v. length (lines_of v)) c.self.view_is)
+    omega (arith, c.len-count.ensures.value, c.requires.last, length-lettered c.self.inside.marks 0 (all_lines c.self.inside.lines), ap (λ v. length (lines_of v)) c.self.view_is)
 
 pub overflow_sub-self : goal.overflow_sub-self
 overflow_sub-self g c =
-    let lines = g.L.BareLines.items c.self.inside.lines in
+    let lines = all_lines c.self.inside.lines in
     let came = c.in_ok-taken.ensures.put in
     omega (
       arith,
@@ -48,7 +49,7 @@ overflow_sub-self g c =
 pub invariant_of-self-2 : goal.invariant_of-self-2
 invariant_of-self-2 g c =
     let e = c.self.inside in
-    let lines = g.L.BareLines.items e.lines in
+    let lines = all_lines e.lines in
     let from = c.args.from in
     let to = c.args.to in
     let count = c.len-count.result in
@@ -75,13 +76,13 @@ invariant_of-self-2 g c =
 pub returns-clause-taken : goal.returns-clause-taken
 returns-clause-taken g c =
     c.in_ok-taken.ensures.taken
-    ∙ block-lettered c.args.from c.args.to c.self.inside.marks (g.L.BareLines.items c.self.inside.lines)
+    ∙ block-lettered c.args.from c.args.to c.self.inside.marks (all_lines c.self.inside.lines)
     ∙ ap (λ v. texts (block c.args.from c.args.to (lines_of v))) c.self.view_is
 
 pub returns-clause-put : goal.returns-clause-put
 returns-clause-put g c =
     let e = c.self.inside in
-    let lines = g.L.BareLines.items e.lines in
+    let lines = all_lines e.lines in
     let from = c.args.from in
     let to = c.args.to in
     let count = c.len-count.result in

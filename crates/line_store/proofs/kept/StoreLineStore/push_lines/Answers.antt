@@ -4,6 +4,7 @@ use Rattle.std.specs.Result.{OnOk}
 use Rattle.ed_base.specs.Lines.{AreLines, bytes_of}
 use Rattle.ed_base.specs.Buffer.{texts}
 use Rattle.ed_base.specs.Parts.{block}
+use Rattle.line_store.specs.Cut.{all_lines}
 use Rattle.line_store.specs.Kept.{lines_of}
 use Rattle.line_store.proofs.Lettered.{length-lettered}
 use Rattle.line_store.proofs.Taken.{block-lettered}
@@ -14,7 +15,7 @@ push_lines-requires-clause-last g c =
     omega (
       arith,
       c.requires.last,
-      length-lettered c.self.inside.marks 0 (g.L.BareLines.items c.self.inside.lines),
+      length-lettered c.self.inside.marks 0 (all_lines c.self.inside.lines),
       ap (λ v. length (lines_of v)) c.self.view_is,
     )
 
@@ -22,7 +23,7 @@ pub returns-clause-appended : goal.returns-clause-appended
 returns-clause-appended g c =
     let from = c.args.from in
     let to = c.args.to in
-    let same = block-lettered from to c.self.inside.marks (g.L.BareLines.items c.self.inside.lines)
+    let same = block-lettered from to c.self.inside.marks (all_lines c.self.inside.lines)
     ∙ ap (λ v. texts (block from to (lines_of v))) c.self.view_is in
     let P : List (List ℕ) → Type 0 = λ t. OnOk c.push_lines.result (c.push_lines.new.output ≡ c.args.output.now ++ bytes_of t) in
     subst P same c.push_lines.ensures.appended
@@ -31,7 +32,7 @@ pub returns-clause-lines : goal.returns-clause-lines
 returns-clause-lines g c =
     let from = c.args.from in
     let to = c.args.to in
-    let same = block-lettered from to c.self.inside.marks (g.L.BareLines.items c.self.inside.lines)
+    let same = block-lettered from to c.self.inside.marks (all_lines c.self.inside.lines)
     ∙ ap (λ v. texts (block from to (lines_of v))) c.self.view_is in
     let P : List (List ℕ) → Type 0 = λ t. OnOk c.push_lines.result (AreLines t) in
     subst P same c.push_lines.ensures.lines

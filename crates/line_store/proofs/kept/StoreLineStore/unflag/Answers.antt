@@ -1,6 +1,7 @@
 -- A line's flag is its own, whatever its letters.
 use Rattle.std.proofs.Common.{◌<◌, ◌∙◌, [], refl, ap, sym, subst, length, length-set, get_or, false, arith}
 use Rattle.ed_base.specs.Buffer.{plain_line, with_flag, flagged_at}
+use Rattle.line_store.specs.Cut.{all_lines}
 use Rattle.line_store.specs.Marks.{AllBelow}
 use Rattle.line_store.specs.Kept.{lines_of, Unflagged, flag_count}
 use Rattle.line_store.proofs.Lettered.{length-lettered}
@@ -9,16 +10,16 @@ use Rattle.line_store.proofs.kept.StoreLineStore.unflag.Goals as goal
 
 pub flagged-before-requires : goal.flagged-before-requires
 flagged-before-requires g c =
-    omega (arith, c.requires.place, length-lettered c.self.inside.marks 0 (g.L.BareLines.items c.self.inside.lines), ap (λ v. length (lines_of v)) c.self.view_is)
+    omega (arith, c.requires.place, length-lettered c.self.inside.marks 0 (all_lines c.self.inside.lines), ap (λ v. length (lines_of v)) c.self.view_is)
 
 pub unflag-requires : goal.unflag-requires
 unflag-requires g c =
-    omega (arith, c.requires.place, length-lettered c.self.inside.marks 0 (g.L.BareLines.items c.self.inside.lines), ap (λ v. length (lines_of v)) c.self.view_is)
+    omega (arith, c.requires.place, length-lettered c.self.inside.marks 0 (all_lines c.self.inside.lines), ap (λ v. length (lines_of v)) c.self.view_is)
 
 pub invariant_of-self : goal.invariant_of-self
 invariant_of-self g c =
     let e = c.self.inside in
-    let lines = g.L.BareLines.items e.lines in
+    let lines = all_lines e.lines in
     let place : c.args.i < length lines =
     omega (arith, c.requires.place, length-lettered e.marks 0 lines, ap (λ v. length (lines_of v)) c.self.view_is) in
     let new = with_flag false (get_or lines c.args.i (plain_line [])) in
@@ -35,7 +36,7 @@ invariant_of-self g c =
 pub returns : goal.returns
 returns g c =
     let e = c.self.inside in
-    let lines = g.L.BareLines.items e.lines in
+    let lines = all_lines e.lines in
     let place : c.args.i < length lines =
     omega (arith, c.requires.place, length-lettered e.marks 0 lines, ap (λ v. length (lines_of v)) c.self.view_is) in
     record {

@@ -1,11 +1,11 @@
 -- One more line was taken, and those after it are left.
-use Rattle.std.proofs.Common.{◌≡◌, ◌+◌, ◌-◌, ◌<◌, ◌∷◌, ◌++◌, [], ◌∙◌, ap, sym, arith, drop, length, length-append, slice_range}
+use Rattle.std.proofs.Common.{◌≡◌, ◌+◌, ◌-◌, ◌<◌, ◌∷◌, ◌++◌, [], ◌∙◌, ap, sym, arith, drop, length, length-append, map, slice_range}
 use Rattle.std.proofs.lemmas.List.{length-drop}
 use Rattle.ed_base.specs.Buffer.{plain_line, texts}
 use Rattle.ed_base.specs.Lines.{lines_of}
 use Rattle.line_store.specs.Kept.{flag_count}
 use Rattle.line_store.proofs.Cuts.{to_end, line-between, rest-after}
-use Rattle.line_store.proofs.Filled.{taken-next, unflagged-more}
+use Rattle.line_store.proofs.Filled.{plain-more, taken-next, unflagged-more}
 use Rattle.line_store.proofs.Runs.{run-last, run-next}
 use Rattle.line_store.proofs.shared.FileLines.next_ring.Goals as goal
 
@@ -34,6 +34,8 @@ lines-preserved c =
       place = omega arith;
       room = omega (arith, c.lines.invariant.room, c.push_reserved.ensures.capacity);
       few = omega (arith, ap length items, length-append before (line ∷ []), c.lines-test.true, c.len.ensures);
+      plain = items ∙ plain-more before line text is c.lines.invariant.plain
+          ∙ ap (λ t. map plain_line (texts t)) (sym items);
       unflagged = ap flag_count items ∙ unflagged-more before line text is c.lines.invariant.unflagged;
       order = omega (arith, c.lines.invariant.order, some, c.in-Some.ensures.shorter, ap length left);
       run = run-next bytes _ c.self.inside.next next text rest before _ line c.lines.ended c.lines.invariant.order some

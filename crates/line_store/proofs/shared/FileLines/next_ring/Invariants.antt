@@ -1,7 +1,7 @@
 -- The lines that were taken stand before those that are left.
-use Rattle.std.proofs.Common.{◌≡◌, ◌≤◌, ◌++◌, ◌-◌, drop, false, length, slice_range}
+use Rattle.std.proofs.Common.{◌≡◌, ◌≤◌, ◌++◌, ◌-◌, drop, false, length, map, slice_range}
 use Rattle.std.specs.Prelude.{vec_capacity}
-use Rattle.ed_base.specs.Buffer.{texts}
+use Rattle.ed_base.specs.Buffer.{plain_line, texts}
 use Rattle.ed_base.specs.Lines.{lines_of}
 use Rattle.line_store.specs.Chunks.{full}
 use Rattle.line_store.specs.Kept.{flag_count}
@@ -14,6 +14,7 @@ invariant-lines l = record {
   place : l.next ≤ length l.bytes;
   room : full ≤ vec_capacity l.row;
   few : length l.row.items ≤ full;
+  plain : l.row.items ≡ map plain_line (texts l.row.items);
   unflagged : flag_count l.row.items ≡ 0;
   order : l.initial.next ≤ l.next;
   run : RunOf (run_bytes (slice_range l.bytes l.initial.next l.next) l.ended) l.row.items;

@@ -2,10 +2,10 @@
 use Rattle.std.proofs.Common.{◌≡◌, ◌++◌, map, length}
 use Rattle.ed_base.specs.Lines.{lines_of}
 use Rattle.ed_base.specs.Buffer.{plain_line}
-use Rattle.line_store.proofs.block.Block.one_by_one.Given as goal
+use Rattle.line_store.proofs.block.cut_lines.Given as goal
 
 abbrev pub invariant-loop-lines : goal.invariant-loop-lines
-invariant-loop-lines l = l.lines.items ++ map plain_line (lines_of l.file) ≡ map plain_line (lines_of l.fn.file)
+invariant-loop-lines l = l.lines.items ++ map plain_line (lines_of l.rest) ≡ map plain_line (lines_of l.fn.file)
 
 abbrev pub decreases-loop-lines : goal.decreases-loop-lines
-decreases-loop-lines l = length (lines_of l.file)
+decreases-loop-lines l = length (lines_of l.rest)

@@ -3,15 +3,16 @@ use Rattle.std.proofs.Common.{◌∷◌, ◌++◌, ◌∙◌, [], ap, sym, arith
 use Rattle.std.proofs.lemmas.List.{map-append}
 use Rattle.ed_base.specs.Buffer.{Line, plain_line, texts}
 use Rattle.ed_base.specs.Parts.{block}
+use Rattle.line_store.specs.Cut.{all_lines}
 use Rattle.line_store.proofs.Ranges.{block-more, block-none}
-use Rattle.line_store.proofs.blocks.copy_lines.Goals as goal
+use Rattle.line_store.proofs.cut_lines.CutLines.copy_block.Goals as goal
 
 pub loop-i-init : goal.loop-i-init
-loop-i-init g c = ap texts (c.in_ok-copies.ensures.items ∙ sym (block-none c.args.from (g.L.BareLines.items c.args.lines.now)))
+loop-i-init g c = ap texts (c.in_ok-copies.ensures.items ∙ sym (block-none c.args.from (all_lines c.args.self.now)))
 
 pub loop-i-preserved : goal.loop-i-preserved
 loop-i-preserved g c =
-    let lines = g.L.BareLines.items c.args.lines.now in
+    let lines = all_lines c.args.self.now in
     let from = c.args.from in
     let i = c.loop-i.i in
     let line = get_or lines i (plain_line []) in

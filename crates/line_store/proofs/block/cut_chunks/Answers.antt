@@ -3,12 +3,12 @@ use Rattle.std.proofs.Common.{◌≡◌, ◌∷◌, ◌++◌, [], ◌∙◌, fal
 use Rattle.ed_base.specs.Lines.{lines_of}
 use Rattle.line_store.specs.Chunks.{joined}
 use Rattle.line_store.proofs.Filled.{fewer-left, joined-more, taken-chunk, unflagged-chunk}
-use Rattle.line_store.proofs.block.Block.in_chunks.Goals as goal
+use Rattle.line_store.proofs.block.cut_chunks.Goals as goal
 
 pub chunks-smaller : goal.chunks-smaller
 chunks-smaller c =
-    let some : nat_eq (length c.chunks.file) 0 ≡ false = sym c.is_done.ensures.value ∙ c.chunks-test.true in
-    fewer-left c.in_ok-chunk.chunk c.chunks.file c.of_file.new.file some c.in_ok-chunk.ensures.lines c.in_ok-chunk.ensures.count
+    let some : nat_eq (length c.chunks.rest) 0 ≡ false = sym c.is_done.ensures.value ∙ c.chunks-test.true in
+    fewer-left c.in_ok-chunk.chunk c.chunks.rest c.of_file.new.file some c.in_ok-chunk.ensures.lines c.in_ok-chunk.ensures.count
 
 pub chunks-preserved : goal.chunks-preserved
 chunks-preserved c =

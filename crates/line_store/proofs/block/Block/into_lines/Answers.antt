@@ -1,0 +1,8 @@
+-- The lines of a file are those that it has.
+use Rattle.std.proofs.Common.{◌∙◌}
+use Rattle.line_store.proofs.Filled.{whole-file}
+use Rattle.line_store.proofs.block.Block.into_lines.Goals as goal
+
+pub returns-in-Err-cut_lines-clause-handed_back : goal.returns-in-Err-cut_lines-clause-handed_back
+returns-in-Err-cut_lines-clause-handed_back c =
+    c.of_counted.ensures.value ∙ whole-file c.self.inside.kind c.in-File.file c.in-File.count c.args.self c.in-File.is c.self.view_is
