@@ -57,7 +57,7 @@ pub record MatchLaws : Type 0 where
   pub widen : (old new : State) → MatchesAreFormed old → MatchesAreFormed new → MatchesAreFormed (widen old new)
   pub entry : (verb : Verb) (invariant : State) → VerbIsBytes verb → MatchesAreFormed invariant → MatchesAreFormed (body_entry verb invariant)
   pub end : (x : Step) (before invariant : State) → MatchesAreFormed before → MatchesAreFormed invariant → MatchesAreFormed (loop_end x before invariant)
-  pub watched : (script : Script) (has : List (List ℕ)) → All (λ (x : Step). TextsAreBytes x.command × All TextsAreBytes x.list) script.steps → TextsAreFormed has → TextsAreFormed (watched script has)
+  pub watched : (follows : Bool) (script : Script) (has : List (List ℕ)) → All (λ (x : Step). TextsAreBytes x.command × All TextsAreBytes x.list) script.steps → TextsAreFormed has → TextsAreFormed (watched follows script has)
 
 -- AS FAR AS IT IS TOLD
 
@@ -460,8 +460,8 @@ sight-version script version.Three has = refl
 watch-formed : MatchLaws → (script : Script) (v : Version) (has : List (List ℕ)) → All StepIsBytes script.steps → TextsAreFormed has →
     WatchIsFormed (sight_of script v has).version (sight_of script v has).watch
 watch-formed k script version.One has b h = tt
-watch-formed k script version.Two has b h = k.watched script has b h
-watch-formed k script version.Three has b h = k.watched script has b h
+watch-formed k script version.Two has b h = k.watched false script has b h
+watch-formed k script version.Three has b h = k.watched true script has b h
 
 -- what is known of landmarks says nothing of matches, and follows their lines
 may-began : (v : Version) (letters : List ℕ) (chains : List (List Landmark)) (s : State) → MatchesAreFormed s →

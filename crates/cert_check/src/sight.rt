@@ -25,7 +25,8 @@ impl Sight {
     {
         let watch = match version {
             Version::One => Watch::none(*script.commands.allocator()),
-            Version::Two | Version::Three => Watch::of(script, has)?,
+            Version::Two => Watch::of(script, has)?,
+            Version::Three => Watch::of_lines(script, has)?,
         };
         Ok(Sight { version, watch })
     }

@@ -19,12 +19,14 @@ pub mod Flags
 pub mod Results
 pub mod Substituting
 pub mod SubstitutionEffects
+pub mod SubstitutedLine
 pub mod Answering
 pub mod GlobalEffects
 pub mod Reading
 pub mod Filing
 pub mod Commanding
 pub mod Asking
+pub mod FactsPhases
 pub mod Sound
 pub mod FlagsKept
 pub mod Looping

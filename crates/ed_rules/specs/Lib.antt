@@ -17,6 +17,7 @@ pub mod Substituting
 pub mod Files
 pub mod Undoing
 pub mod Matching
+pub mod FactsAfter
 pub mod Rules
 pub mod Reaching
 pub mod Soundness
@@ -26,5 +27,5 @@ pub mod Globals
 pub mod GlobalSoundness
 -- what the law on exact commands says
 pub mod ExactRules
--- what is known of single lines beside the zone; the rules that keep it are still to be written
+-- what is known of single lines beside the zone
 pub mod facts

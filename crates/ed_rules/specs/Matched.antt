@@ -1,5 +1,5 @@
 -- Patterns that some line matches, and those that are watched for.
-use Rattle.std.specs.Prelude.{◌≡◌, ℕ, Bool, true, List, [], ◌∷◌, ◌++◌, Option, Some, None}
+use Rattle.std.specs.Prelude.{◌≡◌, ℕ, Bool, true, List, [], ◌∷◌, ◌++◌, Option, Some, None, if◌then◌else◌}
 use Rattle.std.specs.List.{list_all, list_any, filter, flat_map}
 use Rattle.ed_base.specs.Buffer.{Line}
 use Rattle.ed_syntax.specs.Commands as ed
@@ -51,6 +51,22 @@ sought_by_step x = sought x.command ++ flat_map sought x.list
 abbrev pub sought_in : Script → List (List ℕ)
 sought_in script = flat_map sought_by_step script.steps
 
--- watched are the start's patterns and those given in searches
-abbrev pub watched : Script → (has : List (List ℕ)) → List (List ℕ)
-watched script has = with_texts (sought_in script) has
+-- the pattern that `s`, `g` or `v` is given
+abbrev pub asked_for : Option (List ℕ) → List (List ℕ)
+asked_for None = []
+asked_for (Some text) = text ∷ []
+
+-- The patterns that a command gives: those in its searches and, where single lines are followed, that of `s`, `g` or `v` too, which an entered
+-- line may be known to match.
+abbrev pub given_by : (follows : Bool) → Command → List (List ℕ)
+given_by follows c = if follows then sought c ++ asked_for (takes c.verb).pattern else sought c
+
+abbrev pub given_by_step : (follows : Bool) → Step → List (List ℕ)
+given_by_step follows x = given_by follows x.command ++ flat_map (given_by follows) x.list
+
+abbrev pub given_in : (follows : Bool) → Script → List (List ℕ)
+given_in follows script = flat_map (given_by_step follows) script.steps
+
+-- watched are the start's patterns and those that the script gives
+abbrev pub watched : (follows : Bool) → Script → (has : List (List ℕ)) → List (List ℕ)
+watched follows script has = with_texts (given_in follows script) has

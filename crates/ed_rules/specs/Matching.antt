@@ -13,7 +13,7 @@ use Rattle.ed_rules.specs.declared.state.Old.{Old}
 use Rattle.ed_rules.specs.declared.state.State.{State}
 use Rattle.ed_rules.specs.Texts.{with_texts}
 use Rattle.ed_rules.specs.Matched.{gained}
-use Rattle.ed_rules.specs.facts.Facts.{no_facts}
+use Rattle.ed_rules.specs.facts.Facts.{Facts}
 use Rattle.ed_rules.specs.KnownMatches.{no_matches, exchanged, old_has_of_both, matches_of_both}
 
 abbrev pub entering : (text : List (List ℕ)) → Certainty
@@ -85,6 +85,6 @@ matches_after watched listed given lines start s = record {
   old_has = old_matched_unless listed (how_surely given lines s.zone) start s;
 }
 
--- a state that says this of matches, nothing of single lines, and of all else the same
-abbrev pub saying : Matches → State → State
-saying m s = record s { matches = m; facts = no_facts }
+-- a state that says this of matches and of single lines, and of all else the same
+abbrev pub saying : Matches → Facts → State → State
+saying m facts s = record s { matches = m; facts = facts }

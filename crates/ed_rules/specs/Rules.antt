@@ -21,6 +21,7 @@ use Rattle.ed_rules.specs.Substituting.{pattern_used, substituted}
 use Rattle.ed_rules.specs.Files.{file_read, whole_or_ranged, file_written, saved, edited, edited_anyway, file_named}
 use Rattle.ed_rules.specs.Undoing.{undone}
 use Rattle.ed_rules.specs.Matching.{saying, matches_after}
+use Rattle.ed_rules.specs.FactsAfter.{facts_after}
 
 -- what a command needs of its lines, by how many it takes
 abbrev pub taken : Taking → (given a : Addresses) → State → Result State Fault
@@ -73,7 +74,8 @@ step_at watched a c s =
     targeted (takes c.verb).target t >> λ p.
     taken (takes c.verb).taking c.addresses a p >> λ u.
     effect c.listed c.addresses c.verb s u >> λ r.
-    suffixed c.suffix (saying (matches_after watched c.listed c.addresses (takes c.verb).lines s u) (with_zone (ended r.marks r.zone) r))
+    suffixed c.suffix (saying (matches_after watched c.listed c.addresses (takes c.verb).lines s u) (facts_after watched c.listed c.addresses c.verb u r)
+    (with_zone (ended r.marks r.zone) r))
 
 -- The state after a command, or the fault of the first need that fails. Which patterns are watched makes no difference to its needs.
 abbrev pub step : (watched : List (List ℕ)) → Command → State → Result State Fault

@@ -5,6 +5,8 @@ pub mod SearchOrder
 pub mod FoundLines
 pub mod FoundHolds
 pub mod EditedFacts
+pub mod NewLines
+pub mod PrunedFacts
 pub mod EditHolds
 pub mod AssignedFacts
 pub mod SubstitutedFacts

@@ -91,7 +91,7 @@ impl LineFacts {
     }
 
     /// The patterns that they speak of.
-    fn patterns(&self, alloc: Global) -> Result<Texts, AllocError>
+    pub(crate) fn patterns(&self, alloc: Global) -> Result<Texts, AllocError>
         ensures value { IfOk result (λ patterns. patterns ≡ patterns_of self.now) }
     {
         let mut patterns = Texts::none(alloc);
@@ -111,7 +111,7 @@ impl LineFacts {
     }
 
     /// x becomes y plus an offset, as far as it is known of the lines that y names. After an `Err` some of it may be done.
-    fn set_to(
+    pub(crate) fn set_to(
         &mut self,
         alloc: Global,
         zone: &Zone,

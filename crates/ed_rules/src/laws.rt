@@ -9,7 +9,7 @@ ghost use Rattle.ed_rules.specs.Matched.{watched};
 ghost use Rattle.ed_rules.specs.Order.{join, widen, Covers};
 ghost use Rattle.ed_rules.specs.Rules.{step, fault_of};
 ghost use Rattle.ed_rules.specs.StandsFor.{StandsFor};
-ghost use Rattle.std.specs.Prelude.{◌≡◌, ℕ, negsuc, false, ◌&&◌, List, [], ◌∷◌, All, Option, IfOk};
+ghost use Rattle.std.specs.Prelude.{◌≡◌, ℕ, negsuc, Bool, false, ◌&&◌, List, [], ◌∷◌, All, Option, IfOk};
 ghost use Rattle.std.specs.List.{list_all};
 ghost use Rattle.zones.specs.Known.{known};
 ghost use Rattle.zones.specs.Name as name;
@@ -122,9 +122,9 @@ pub fn matches_stay_formed()
         MatchesAreFormed (loop_end x before invariant) }
 
     // And so are the patterns that are watched in a script.
-    ensures watched { (script : Script) (has : List (List ℕ)) →
+    ensures watched { (follows : Bool) (script : Script) (has : List (List ℕ)) →
         All (λ (x : Step). TextsAreBytes x.command × All TextsAreBytes x.list) script.steps → TextsAreFormed has →
-        TextsAreFormed (watched script has) }
+        TextsAreFormed (watched follows script has) }
 {}
 
 /// Where nothing is known of matches and single lines aren't followed, a search needs what it did in certificates that tell nothing of

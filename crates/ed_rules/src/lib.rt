@@ -5,6 +5,7 @@ mod addresses;
 mod change;
 mod choices;
 mod fact_laws;
+mod facts_after;
 mod files;
 mod following;
 mod globals;

@@ -2,11 +2,15 @@
 
 mod assigned;
 mod backward;
+mod carried;
 mod copies;
+pub(crate) mod edited;
 mod forward;
 mod found;
 mod known;
+pub(crate) mod new_lines;
 mod order;
+mod pruned;
 
 ghost use Rattle.std.specs.Prelude.{◌≡◌, ◌<◌, ◌↔◌, [], IsTrue, IfOk, OnOk, OnErr};
 ghost use Rattle.ed_rules.specs.facts.Facts.{no_facts};

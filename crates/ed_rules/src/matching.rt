@@ -43,7 +43,7 @@ fn joining(zone: &Zone) -> Certainty
     }
 }
 
-fn joining_given(given: &Addresses, zone: &Zone) -> Certainty
+pub(crate) fn joining_given(given: &Addresses, zone: &Zone) -> Certainty
     ensures value { result ≡ joining_given (addresses_value given.now) zone.now }
 {
     match given {

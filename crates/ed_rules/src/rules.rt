@@ -8,13 +8,17 @@ ghost use Rattle.ed_syntax.specs.declared.request.Answer.{Answer};
 ghost use Rattle.ed_rules.specs.Pieces.{with_zone, ended};
 ghost use Rattle.ed_syntax.specs.spelling.Readable.{are_lines, enters_lines};
 ghost use Rattle.ed_rules.specs.Rules.{taken, effect, suffixed, step_at, step, fault_of};
-ghost use Rattle.ed_rules.specs.Reaching.{Reaches, Comes};
+ghost use Rattle.ed_rules.specs.States.{old_of};
+ghost use Rattle.ed_rules.specs.FactsAfter.{facts_ended, facts_left, facts_after};
+ghost use Rattle.ed_rules.specs.facts.PrunedFacts.{pruned};
+ghost use Rattle.ed_rules.specs.Reaching.{Reaches, ReachesTelling, Comes};
 ghost use Rattle.ed_rules.specs.StandsFor.{StandsFor};
 ghost use Rattle.ed_rules.specs.Soundness.{IsUnserved, IsDone};
 ghost use Rattle.ed_rules.specs.declared.state.State.{State};
 
 use crate::addresses::standing;
 use crate::laws::commands_are_sound;
+use crate::line_facts::LineFacts;
 use crate::pieces::{end, lift};
 use crate::state::State;
 use crate::watch::Watch;
@@ -133,6 +137,51 @@ impl State {
         Ok(())
     }
 
+    /// The same where single lines are followed, and what is known of them then. In a function of its own, since it keeps the buffer with
+    /// its lines taken beside the new one.
+    fn act_following(
+        &mut self,
+        watch: &Watch,
+        listed: bool,
+        given: &Addresses,
+        verb: &Verb,
+        before: &State,
+    ) -> Result<LineFacts, Fault>
+        ensures exact { ReachesTelling result self.new
+            (effect listed (addresses_value given.now) (verb_value verb.now) before.now self.old)
+            (λ r. pruned r.zone (facts_ended r.marks
+            (facts_left watch.now listed (addresses_value given.now) (verb_value verb.now) (old_of self.old) r))) }
+    {
+        let taken = self.old()?;
+        self.act(listed, given, verb, before)?;
+        let alloc = self.patterns.allocator();
+        let mut facts = taken.facts_left(alloc, watch, listed, given, verb, self)?;
+        facts.end(&self.marks);
+        facts.prune(&self.zone)?;
+        Ok(facts)
+    }
+
+    /// What a command does, and what is known of single lines then.
+    fn act_on_lines(
+        &mut self,
+        watch: &Watch,
+        listed: bool,
+        given: &Addresses,
+        verb: &Verb,
+        before: &State,
+    ) -> Result<LineFacts, Fault>
+        ensures exact { ReachesTelling result self.new
+            (effect listed (addresses_value given.now) (verb_value verb.now) before.now self.old)
+            (facts_after watch.now listed (addresses_value given.now) (verb_value verb.now) self.old) }
+    {
+        if self.follows {
+            self.act_following(watch, listed, given, verb, before)
+        } else {
+            self.act(listed, given, verb, before)?;
+            Ok(LineFacts::none(self.patterns.allocator()))
+        }
+    }
+
     /// The end of a rule, and the need of a suffix.
     fn finish(&mut self, suffix: &Option<Form>) -> Result<(), Fault>
         ensures exact { Reaches result self.new
@@ -169,10 +218,16 @@ impl State {
             takes.lines,
             before,
         )?;
-        self.act(command.listed, &command.addresses, &command.verb, before)?;
+        let facts = self.act_on_lines(
+            watch,
+            command.listed,
+            &command.addresses,
+            &command.verb,
+            before,
+        )?;
         self.finish(&command.suffix)?;
         self.matches = matches;
-        self.forget_lines();
+        self.facts = facts;
         Ok(())
     }
 

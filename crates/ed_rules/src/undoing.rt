@@ -1,7 +1,7 @@
 //! The rule of `u` (XCU ed, "Undo Command").
 
-ghost use Rattle.std.specs.Prelude.{◌≡◌, Some, OnOk};
-ghost use Rattle.ed_rules.specs.Undoing.{brought_back, undone_by, undone};
+ghost use Rattle.std.specs.Prelude.{◌≡◌, Some, IfOk, OnOk};
+ghost use Rattle.ed_rules.specs.Undoing.{present_of, brought_back, undone_by, undone};
 ghost use Rattle.ed_rules.specs.Reaching.{Reaches};
 
 use crate::line_facts::LineFacts;
@@ -11,16 +11,26 @@ use ed_base::Fault;
 use std::alloc::AllocError;
 
 impl State {
-    /// An earlier buffer comes in place of the present one, which undo then finds.
-    fn bring_back(&mut self, old: &Old)
-        ensures exact { self.new ≡ brought_back old.now self.old }
+    /// The present buffer, as undo keeps it.
+    fn present(&self) -> Result<Old, AllocError>
+        ensures value { IfOk result (λ present. present ≡ present_of self.now) }
     {
-        let mut present = Old {
-            zone: self.zone,
-            marks: self.marks,
-            facts: LineFacts::none(self.patterns.allocator()),
-        };
+        let mut present = self.old()?;
         forget_addresses(&mut present.zone);
+        if self.follows {
+            present.facts.end(&self.marks);
+        } else {
+            present.facts = LineFacts::none(self.patterns.allocator());
+        }
+        Ok(present)
+    }
+
+    /// An earlier buffer comes in place of the present one, which undo then finds.
+    fn bring_back(&mut self, old: &Old) -> Result<(), AllocError>
+        ensures exact { OnOk result (self.new ≡ brought_back old.now self.old) }
+    {
+        let present = self.present()?;
+        let facts = old.facts.try_copy()?;
         self.zone = old.zone;
         self.marks = old.marks;
         self.changed = Changed::YES;
@@ -29,7 +39,8 @@ impl State {
             same: false,
             was: Some(present),
         };
-        self.forget_lines();
+        self.facts = facts;
+        Ok(())
     }
 
     /// `u` where it finds an earlier buffer.
@@ -38,12 +49,12 @@ impl State {
     {
         if self.undo.same {
             let mut back = self.try_copy()?;
-            back.bring_back(old);
+            back.bring_back(old)?;
             *self = self.join(&back)?;
+            Ok(())
         } else {
-            self.bring_back(old);
+            self.bring_back(old)
         }
-        Ok(())
     }
 
     /// `u`

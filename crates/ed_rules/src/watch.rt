@@ -1,15 +1,16 @@
-//! The patterns that are watched for: a script's searches look for them, or its start says that some line matches them.
+//! The patterns that are watched for: a script's searches look for them, or its start says that some line matches them; where single lines
+//! are followed also those that its other commands ask for.
 
-ghost use Rattle.std.specs.Prelude.{◌≡◌, [], map, option_map, IfOk, OnOk};
+ghost use Rattle.std.specs.Prelude.{◌≡◌, [], map, option_map, true, false, IfOk, OnOk};
 ghost use Rattle.std.specs.List.{flat_map};
 ghost use Rattle.ed_syntax.specs.PublicScript.{script_value};
 ghost use Rattle.ed_syntax.specs.PublicTypes.{base_value, address_value, addresses_value, command_value, step_value};
 ghost use Rattle.ed_rules.specs.Texts.{with_texts};
-ghost use Rattle.ed_rules.specs.Matched.{gained, sought_at, sought_by, sought_at_target, sought, sought_by_step, watched};
+ghost use Rattle.ed_rules.specs.Matched.{gained, sought_at, sought_by, sought_at_target, sought, asked_for, given_by, given_by_step, watched};
 
 use crate::matched::some_line_matches;
 use ed_base::{Text, Texts};
-use ed_syntax::{Address, Addresses, Base, Command, Script};
+use ed_syntax::{Address, Addresses, Base, Command, Pattern, Script};
 use std::alloc::{AllocError, Global};
 use std::marker::Model;
 
@@ -68,39 +69,75 @@ fn add_target(target: Option<&Address>, patterns: &mut Texts) -> Result<(), Allo
 }
 
 /// Those given in the searches of a command.
-fn add_command(command: &Command, patterns: &mut Texts) -> Result<(), AllocError>
+fn add_sought(command: &Command, patterns: &mut Texts) -> Result<(), AllocError>
     ensures value { OnOk result (patterns.new ≡ with_texts (sought (command_value command.now)) patterns.old) }
 {
     add_addresses(&command.addresses, patterns)?;
     add_target(command.verb.takes().target, patterns)
 }
 
-fn add_list(list: &[Command], patterns: &mut Texts) -> Result<(), AllocError>
-    ensures value { OnOk result (patterns.new ≡ with_texts (flat_map sought (map command_value list.now)) patterns.old) }
+/// The pattern that `s`, `g` or `v` is given.
+fn add_asked(pattern: Option<&Pattern>, patterns: &mut Texts) -> Result<(), AllocError>
+    ensures value { OnOk result (patterns.new ≡
+        with_texts (asked_for (option_map (λ pattern. pattern.now) pattern.entry)) patterns.old) }
+{
+    match pattern {
+        Some(pattern) => patterns.add(pattern.text()),
+        None => Ok(()),
+    }
+}
+
+/// Those that a command gives.
+fn add_command(follows: bool, command: &Command, patterns: &mut Texts) -> Result<(), AllocError>
+    ensures value { OnOk result (patterns.new ≡ with_texts (given_by follows (command_value command.now)) patterns.old) }
+{
+    add_sought(command, patterns)?;
+    if follows {
+        add_asked(command.verb.takes().pattern, patterns)
+    } else {
+        Ok(())
+    }
+}
+
+fn add_list(follows: bool, list: &[Command], patterns: &mut Texts) -> Result<(), AllocError>
+    ensures value { OnOk result (patterns.new ≡ with_texts (flat_map (given_by follows) (map command_value list.now)) patterns.old) }
 {
     for command in list {
-        add_command(command, patterns)?;
+        add_command(follows, command, patterns)?;
     }
     Ok(())
 }
 
-fn add_step(command: &Command, patterns: &mut Texts) -> Result<(), AllocError>
-    ensures value { OnOk result (patterns.new ≡ with_texts (sought_by_step (step_value command.now)) patterns.old) }
+fn add_step(follows: bool, command: &Command, patterns: &mut Texts) -> Result<(), AllocError>
+    ensures value { OnOk result (patterns.new ≡ with_texts (given_by_step follows (step_value command.now)) patterns.old) }
 {
-    add_command(command, patterns)?;
-    add_list(command.list(), patterns)
+    add_command(follows, command, patterns)?;
+    add_list(follows, command.list(), patterns)
 }
 
 impl Watch {
-    /// The patterns watched in a script, of whose start some lines match these: these, and those given in its searches.
-    pub fn of(script: &Script, has: &Texts) -> Result<Watch, AllocError>
-        ensures value { IfOk result (λ watch. watch ≡ watched (script_value script.now) has.now) }
+    fn given(follows: bool, script: &Script, has: &Texts) -> Result<Watch, AllocError>
+        ensures value { IfOk result (λ watch. watch ≡ watched follows (script_value script.now) has.now) }
     {
         let mut patterns = has.try_copy()?;
         for command in script.commands.as_slice() {
-            add_step(command, &mut patterns)?;
+            add_step(follows, command, &mut patterns)?;
         }
         Ok(Watch { patterns })
+    }
+
+    /// The patterns watched in a script, of whose start some lines match these: these, and those given in its searches.
+    pub fn of(script: &Script, has: &Texts) -> Result<Watch, AllocError>
+        ensures value { IfOk result (λ watch. watch ≡ watched false (script_value script.now) has.now) }
+    {
+        Watch::given(false, script, has)
+    }
+
+    /// The same where single lines are followed: also those that `s`, `g` and `v` are given.
+    pub fn of_lines(script: &Script, has: &Texts) -> Result<Watch, AllocError>
+        ensures value { IfOk result (λ watch. watch ≡ watched true (script_value script.now) has.now) }
+    {
+        Watch::given(true, script, has)
     }
 
     /// No pattern.

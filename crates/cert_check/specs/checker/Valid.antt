@@ -61,11 +61,11 @@ counted [] = []
 counted (x ∷ xs) = x ∷ (elim (ends_run x.command.verb) [ true ↦ [] | false ↦ counted xs ])
 
 -- What a script is judged by, beside what is known: the version of its certificate, and the patterns that are watched for, those that the
--- certificate states of its start among them. Version 1 watches for none.
+-- certificate states of its start among them. Version 1 watches for none, and version 3 for those of `s`, `g` and `v` too.
 abbrev pub sight_of : Script → Version → (has : List (List ℕ)) → Sight
 sight_of script version.One has = record { version = version.One; watch = [] }
-sight_of script version.Two has = record { version = version.Two; watch = watched script has }
-sight_of script version.Three has = record { version = version.Three; watch = watched script has }
+sight_of script version.Two has = record { version = version.Two; watch = watched false script has }
+sight_of script version.Three has = record { version = version.Three; watch = watched true script has }
 
 abbrev pub seen_by : Script → Certificate → Sight
 seen_by script c = sight_of script c.version c.has

@@ -32,6 +32,7 @@ use Rattle.ed_rules.specs.Addresses.{addressed, standing, last_given, evaluated,
 use Rattle.ed_syntax.specs.spelling.Readable.{enters_lines, is_readable}
 use Rattle.ed_rules.specs.Rules.{taken, effect, suffixed, step_at}
 use Rattle.ed_rules.specs.Matching.{saying}
+use Rattle.ed_rules.specs.facts.Facts.{Facts}
 use Rattle.ed_rules.specs.Exact.{are_by_number, is_exact_verb}
 use Rattle.ed_rules.specs.LineBounds.{most_lines}
 use Rattle.ed_rules.specs.ExactRules.{is_of_buffer, numbers_of, Tells, EndAlike, LeavesTold, LeavesFew, CommandIsExact}
@@ -324,14 +325,14 @@ module _ (c : Command) (given d : Addresses) (s : State) (e : editor.State) (t :
 
 -- ONE COMMAND
 
--- what is known of matches makes no difference to what is told
-matching-told : (t : State) (m : Matches) (f : Effect) → LeavesTold t f → LeavesTold (saying m t) f
-matching-told t m (Makes o) h =
+-- what is known of matches and of single lines makes no difference to what is told
+matching-told : (t : State) (m : Matches) (facts : Facts) (f : Effect) → LeavesTold t f → LeavesTold (saying m facts t) f
+matching-told t m facts (Makes o) h =
     record { zone = h.zone; marks = h.marks; names = h.names; changed = h.changed; inside = h.inside; few = h.few }
-matching-told t m (Asks r) h = h
+matching-told t m facts (Asks r) h = h
 
 alike-beside : (x y : Result State Fault) (z : Result Effect Fault) → Beside x y → EndAlike LeavesTold x z → EndAlike LeavesTold y z
-alike-beside (Ok t) (Ok u) (Ok f) b h = subst (λ (v : State). LeavesTold v f) (sym b.1) (matching-told t b.0 f h)
+alike-beside (Ok t) (Ok u) (Ok f) b h = subst (λ (v : State). LeavesTold v f) (sym b.2) (matching-told t b.0 b.1 f h)
 alike-beside (Ok t) (Ok u) (Err e) b h = h
 alike-beside (Ok t) (Err g) z b h = absurd b
 alike-beside (Err f) (Ok u) z b h = absurd b

@@ -86,7 +86,7 @@ other-lines : (x : ℕ) (n : ℤ) (facts : Facts) (number : Numbers) (lines : Li
 other-lines x n facts number lines ne h = (FactsHold-without x n facts number lines ne h).of_lines
 
 -- a place that isn't a smaller one, or isn't a greater one
-value-up : (x z : ℕ) (n : ℤ) (number : Numbers) → x < 32 → (2 ≡ x → ⊥) → z < 33 → number x ≤ℤ n → value_of number (point z) ≤ℤ value_of (updated number x n) (point z)
+pub value-up : (x z : ℕ) (n : ℤ) (number : Numbers) → x < 32 → (2 ≡ x → ⊥) → z < 33 → number x ≤ℤ n → value_of number (point z) ≤ℤ value_of (updated number x n) (point z)
 value-up x z n number hx ne hz up = elim (cases_eq z x) [
   | inl e ↦
       let a : value_of number (point z) ≡ number x = ap (λ (y : ℕ). value_of number (point y)) e ∙ value-at number x hx in

@@ -20,19 +20,19 @@ use Rattle.ed_rules.proofs.sound.Moving.{length-carried, rest-low, rest-high, ca
 
 -- WHERE LINES COME TO
 
-to-low : (a b place i : ℕ) → i ≤ a → i ≤ place → carried_to a b place i ≡ i
+pub to-low : (a b place i : ℕ) → i ≤ a → i ≤ place → carried_to a b place i ≡ i
 to-low a b place i h k = grind (arith, nat_tests)
 
-to-block : (a b place i : ℕ) → a < b → a < i → i ≤ b → carried_to a b place i ≡ place + (i - a)
+pub to-block : (a b place i : ℕ) → a < b → a < i → i ≤ b → carried_to a b place i ≡ place + (i - a)
 to-block a b place i ab h k = grind (arith, nat_tests)
 
-to-passed_up : (a b place i : ℕ) → place ≤ a → place < i → i ≤ a → carried_to a b place i ≡ i + (b - a)
+pub to-passed_up : (a b place i : ℕ) → place ≤ a → place < i → i ≤ a → carried_to a b place i ≡ i + (b - a)
 to-passed_up a b place i up h k = grind (arith, nat_tests)
 
-to-passed_down : (a b place i : ℕ) → a < b → a < place → b < i → i ≤ place + (b - a) → carried_to a b place i ≡ i - (b - a)
+pub to-passed_down : (a b place i : ℕ) → a < b → a < place → b < i → i ≤ place + (b - a) → carried_to a b place i ≡ i - (b - a)
 to-passed_down a b place i ab down h k = grind (arith, nat_tests)
 
-to-high : (a b place i : ℕ) → a < b → b < i → place + (b - a) < i → carried_to a b place i ≡ i
+pub to-high : (a b place i : ℕ) → a < b → b < i → place + (b - a) < i → carried_to a b place i ≡ i
 to-high a b place i ab h k = grind (arith, nat_tests)
 
 module _ (zone : Bounds) (facts : Facts) (kept : List ℕ) (number after : Numbers) (old : List Line) (a b t place : ℕ) (s : IsCarried zone facts kept number after old a b t place) where

@@ -1,8 +1,8 @@
 -- What is said after an edit is true.
-use Rattle.std.proofs.Common.{◌≡◌, ◌<◌, ◌≤◌, ◌⊎◌, inl, inr, ℕ, zero, suc, ◌+◌, ◌-◌, ℤ, pos, ◌-ℤ◌, ◌<ℤ◌, Bool, true, false, cond, not, ◌&&◌, ◌||◌, eqb, nat_eq, List, [], ◌∷◌, ◌++◌, map, flat_map, length, All, Option, Some, None, int_eq, refl, sym, ap, subst, ◌∙◌, arith}
+use Rattle.std.proofs.Common.{◌≡◌, ◌<◌, ◌≤◌, ◌⊎◌, inl, inr, ℕ, zero, suc, ◌+◌, ◌-◌, ℤ, pos, ◌+ℤ◌, ◌-ℤ◌, ◌<ℤ◌, Bool, true, false, cond, not, ◌&&◌, ◌||◌, eqb, nat_eq, List, [], ◌∷◌, ◌++◌, map, flat_map, length, All, Option, Some, None, int_eq, refl, sym, ap, subst, ◌∙◌, arith}
 use Rattle.std.specs.List.{list_any, filter}
 use Rattle.std.proofs.lemmas.Int.{ints}
-use Rattle.std.proofs.lemmas.Bool.{eqb-true, cases_order, and_parts, or_cases}
+use Rattle.std.proofs.lemmas.Bool.{eqb-true, cases_lt, cases_order, and_parts, or_cases}
 use Rattle.std.proofs.lemmas.Bool.Decides.{Decides-int_eq}
 use Rattle.std.proofs.lemmas.List.Elements.{All-head, All-tail, All-cons, All-nil, All-map, All-weaker, All-append}
 use Rattle.zones.specs.Zone.{Bounds, Numbers, Holds}
@@ -10,7 +10,7 @@ use Rattle.ed_base.specs.Buffer.{Line}
 use Rattle.ed_base.specs.Parts.{exchanged}
 use Rattle.ed_syntax.specs.meaning.Values.{matches_line}
 use Rattle.ed_rules.specs.facts.Facts.{LineFact, Stretch, Facts, Point, FactsHold, LineFactHolds, StretchHolds, IsClear, value_of, at, point, end, le, below, is_clear, tells}
-use Rattle.ed_rules.specs.facts.EditedFacts.{Fresh, Edit, is_no, none_match, is_free, all_but_last, is_free_before_last, is_single, stays, is_outside, stretch_stays, clear_before, clear_after, stretches, clear_edited, told_fact, of_last, of_last_known, last_edited, lines_edited, edited, Moves, IsLeft}
+use Rattle.ed_rules.specs.facts.EditedFacts.{Fresh, Edit, is_no, none_match, is_free, all_but_last, is_free_before_last, is_single, puts_in, stays, is_outside, stretch_stays, clear_before, clear_after, stretches, clear_edited, told_fact, of_last, of_last_known, last_edited, lines_edited, edited, Moves, IsLeft}
 use Rattle.ed_rules.specs.facts.EditHolds.{AreFresh, AreFreshIf, Stays, IsEdit}
 use Rattle.ed_rules.proofs.facts.FactsTold.{any-gives, any-any, point-named, le-true, is_clear-true, tells-true, differ-true}
 use Rattle.ed_rules.proofs.facts.FoundLines.{filter-both, value-at}
@@ -348,22 +348,29 @@ module _ (zone : Bounds) (facts : Facts) (e : Edit) (kept : List ℕ) (number af
 pub stays-true : (zone : Bounds) (facts : Facts) (e : Edit) (number : Numbers) (old : List Line) (a b x k : ℕ) → stays zone facts e x ≡ true → Holds zone number → FactsHold facts number old → e.from.name < 32 → e.to.name < 32 →
     value_of number e.from ≡ pos a → value_of number e.to ≡ pos b → 1 ≤ a → b ≤ length old → x < 32 → number x ≡ pos k → 1 ≤ k → k ≤ length old → (k < a) ⊎ (b < k)
 stays-true zone facts e number old a b x k h holds f from_named to_named from_is to_is from inside hx is low high =
-    elim (or_cases (below zone (at x) e.from) _ h) [
-      | inl q ↦ let l = le-true zone number (at x) e.from (pos 0 -ℤ pos 1) q hx from_named holds in inl (omega (arith, ints))
-      | inr q ↦ elim (or_cases (below zone e.to (at x)) _ q) [
-        | inl r ↦ let l = le-true zone number e.to (at x) (pos 0 -ℤ pos 1) r to_named hx holds in inr (omega (arith, ints))
-        | inr r ↦
-            let u = and_parts (is_single zone e) _ r in
-            let v = and_parts (int_eq e.from.plus (pos 0)) _ u.0 in
-            let w = and_parts (le zone e.from e.to (pos 0)) (le zone e.to e.from (pos 0)) v.1 in
-            let plus : e.from.plus ≡ pos 0 = (Decides-int_eq e.from.plus (pos 0)).0 v.0 in
-            let one = le-true zone number e.from e.to (pos 0) w.0 from_named to_named holds in
-            let two = le-true zone number e.to e.from (pos 0) w.1 to_named from_named holds in
-            let here : number e.from.name ≡ pos a = omega (arith, ints) in
-            let two_lines = differ-true zone facts number old x e.from.name k a u.1 hx from_named holds f is low high here from (omega (arith, ints)) in
-            elim (cases_order k a) [
-              | inl same ↦ absurd (two_lines same)
-              | inr apart ↦ elim apart [ inl l ↦ inl l | inr l ↦ inr (omega (arith, ints)) ]
-            ]
+    elim (or_cases (puts_in e) _ h) [
+      | inl p ↦
+          let u = and_parts (eqb e.from.name e.to.name) (int_eq e.from.plus (e.to.plus +ℤ pos 1)) p in
+          let same : number e.from.name ≡ number e.to.name = ap number (eqb-true e.from.name e.to.name u.0) in
+          let plus : e.from.plus ≡ e.to.plus +ℤ pos 1 = (Decides-int_eq e.from.plus (e.to.plus +ℤ pos 1)).0 u.1 in
+          elim (cases_lt k a) [ inl l ↦ inl l | inr l ↦ inr (omega (arith, ints)) ]
+      | inr h' ↦ elim (or_cases (below zone (at x) e.from) _ h') [
+        | inl q ↦ let l = le-true zone number (at x) e.from (pos 0 -ℤ pos 1) q hx from_named holds in inl (omega (arith, ints))
+        | inr q ↦ elim (or_cases (below zone e.to (at x)) _ q) [
+          | inl r ↦ let l = le-true zone number e.to (at x) (pos 0 -ℤ pos 1) r to_named hx holds in inr (omega (arith, ints))
+          | inr r ↦
+              let u = and_parts (is_single zone e) _ r in
+              let v = and_parts (int_eq e.from.plus (pos 0)) _ u.0 in
+              let w = and_parts (le zone e.from e.to (pos 0)) (le zone e.to e.from (pos 0)) v.1 in
+              let plus : e.from.plus ≡ pos 0 = (Decides-int_eq e.from.plus (pos 0)).0 v.0 in
+              let one = le-true zone number e.from e.to (pos 0) w.0 from_named to_named holds in
+              let two = le-true zone number e.to e.from (pos 0) w.1 to_named from_named holds in
+              let here : number e.from.name ≡ pos a = omega (arith, ints) in
+              let two_lines = differ-true zone facts number old x e.from.name k a u.1 hx from_named holds f is low high here from (omega (arith, ints)) in
+              elim (cases_order k a) [
+                | inl same ↦ absurd (two_lines same)
+                | inr apart ↦ elim apart [ inl l ↦ inl l | inr l ↦ inr (omega (arith, ints)) ]
+              ]
+        ]
       ]
     ]

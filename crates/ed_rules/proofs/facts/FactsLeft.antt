@@ -1,22 +1,27 @@
 -- Commands as edits: what their rules say of lines is true of what they leave.
-use Rattle.std.proofs.Common.{◌≡◌, ◌<◌, ◌≤◌, inl, inr, ℕ, ◌+◌, ◌-◌, min, pos, Bool, List, [], ◌∷◌, map, length, take, All, Some, None, refl, sym, ap, subst, ◌∙◌, arith}
+use Rattle.std.proofs.Common.{◌≡◌, ◌<◌, ◌≤◌, inl, inr, ℕ, ◌+◌, ◌-◌, min, pos, Bool, true, false, cond, List, [], ◌∷◌, map, length, take, All, Option, Some, None, refl, sym, ap, subst, ◌∙◌, arith}
 use Rattle.std.proofs.lemmas.Int.{ints}
 use Rattle.std.proofs.lemmas.Bool.{cases_lt}
 use Rattle.std.proofs.lemmas.List.{length-take-le, length-map}
 use Rattle.std.proofs.lemmas.List.Elements.{All-map, All-weaker}
 use Rattle.zones.specs.Name.{mark}
 use Rattle.zones.specs.Zone.{Bounds, Numbers, Holds}
-use Rattle.ed_base.specs.Buffer.{Line, plain_line}
-use Rattle.ed_base.specs.Parts.{exchanged, replaced}
+use Rattle.zones.specs.Known.{known}
+use Rattle.zones.proofs.Known.{known-true}
+use Rattle.ed_base.specs.Buffer.{Line, plain_line, texts}
+use Rattle.ed_base.specs.Parts.{exchanged, replaced, inserted, between}
 use Rattle.ed_syntax.specs.meaning.Values.{matches}
 use Rattle.ed_syntax.specs.meaning.States as editor
 use Rattle.ed_syntax.specs.meaning.Ranges.{Span}
 use Rattle.ed_syntax.specs.meaning.Effects as effects
 use Rattle.ed_rules.specs.StandsFor.{Reads}
-use Rattle.ed_rules.specs.facts.Facts.{Facts, FactsHold, value_of, at}
-use Rattle.ed_rules.specs.facts.EditedFacts.{Edit, IsLeft, edited, entered_line, deletion, changing, joining, appending, inserting}
+use Rattle.ed_rules.specs.facts.Facts.{Facts, FactsHold, value_of, at, told}
+use Rattle.ed_rules.specs.facts.EditedFacts.{Fresh, Edit, IsLeft, edited, entered_line, deletion, changing, joining, rewriting, adding, appending, copying, inserting}
 use Rattle.ed_rules.specs.facts.EditHolds.{AreFresh, AreFreshIf, Stays, LetterStays, Takes, FactsAreLeft}
 use Rattle.ed_rules.proofs.sound.LettersInLines.{line_with, line_with-range, line_with-take_before, line_with-append_right, line_with-drop, line_with-replaced_before, line_with-place, line_with-plain}
+use Rattle.ed_rules.proofs.sound.Reading.{inserted-none}
+use Rattle.ed_rules.proofs.sound.SubstitutionEffects.{one-between}
+use Rattle.ed_rules.proofs.facts.FactsTold.{told-true}
 use Rattle.ed_rules.proofs.facts.EditedLines.{sizes-of}
 use Rattle.ed_rules.proofs.facts.EditedFacts.{edit-holds, stays-true}
 
@@ -94,6 +99,45 @@ entered-fresh (t ∷ text) = ((λ p answer e. let k : matches p t ≡ answer = c
 pub at-first : (number : Numbers) (x n : ℕ) → number x ≡ pos n → value_of number (at x) ≡ pos n
 at-first number x n e = omega (arith, ints)
 
+-- LINES THAT ARE PUT IN
+
+entered-lines : (a : ℕ) (ts : List (List ℕ)) (e : editor.State) → (effects.entered a ts e).state.lines ≡ inserted a (map plain_line ts) e.lines
+entered-lines a [] e = sym (inserted-none a e.lines)
+entered-lines a (t ∷ ts) e = refl
+
+entered-current : (a : ℕ) (ts : List (List ℕ)) (e : editor.State) → (effects.entered a ts e).state.current ≡ a + length ts
+entered-current a [] e = omega arith
+entered-current a (t ∷ ts) e = refl
+
+-- after a line, if any are
+pub add-left : (zone : Bounds) (facts : Facts) (marks : List Bool) (number : Numbers) (e : editor.State) (x a : ℕ) (fresh : Option (List Fresh)) (ts : List (List ℕ)) →
+    Holds zone number → FactsHold facts number e.lines → Reads marks e.lines e.current number → x < 32 → number x ≡ pos a → a ≤ length e.lines → AreFreshIf fresh (map plain_line ts) →
+    FactsAreLeft zone facts marks (adding x fresh) (effects.entered a ts e).state
+add-left zone facts marks number e x a fresh ts holds f r hx is inside known letters patterns after_marks after q all =
+    let new : List Line = map plain_line ts in
+    let made : editor.State = (effects.entered a ts e).state in
+    let n : length new ≡ length ts = length-map ts plain_line in
+    let current : made.current ≡ a + length ts = entered-current a ts e in
+    let lines : made.lines ≡ exchanged (a + 1 - 1) a new e.lines =
+    entered-lines a ts e ∙ ap (λ (k : ℕ). exchanged k a new e.lines) (let same : a ≡ a + 1 - 1 = omega arith in same) in
+    subst (λ (ls : List Line). FactsHold (edited zone facts (adding x fresh) (map mark letters) patterns) after ls) (sym lines)
+    (facts-left zone facts (adding x fresh) marks after_marks number after e.lines new (a + 1) a e.current made.current letters holds f hx hx (omega (arith, ints)) (at-first number x a is)
+    (omega arith) (omega arith) inside r (subst (λ (ls : List Line). Reads after_marks ls made.current after) lines q) (inl (omega arith)) (λ y. line_with-plain y ts) known all patterns)
+
+-- the copy of a line
+copied-fresh : (zone : Bounds) (facts : Facts) (number : Numbers) (ls : List Line) (a b : ℕ) → Holds zone number → FactsHold facts number ls → number 3 ≡ pos a → number 4 ≡ pos b →
+    1 ≤ a → a ≤ b → b ≤ length ls → AreFreshIf (copying zone facts).fresh (map plain_line (texts (between a b ls)))
+copied-fresh zone facts number ls a b holds f first last from order inside =
+    let new : List Line = map plain_line (texts (between a b ls)) in
+    (elim (known zone 4 3 (pos 0)) as (λ c. known zone 4 3 (pos 0) ≡ c → AreFreshIf (cond c (Some (told zone facts 4 ∷ [])) None) new) [
+      | true ↦ λ k.
+          let d = known-true zone number 4 3 (pos 0) k (omega arith) (omega arith) holds in
+          let same : b ≡ a = omega (arith, ints) in
+          subst (λ (block : List Line). AreFreshIf (Some (told zone facts 4 ∷ [])) (map plain_line (texts block))) (sym (one-between ls a b from same (omega arith)))
+          ((λ p answer e. told-true zone facts number ls 4 a p answer e (omega arith) holds f (last ∙ ap pos same) from (omega arith)), tt)
+      | false ↦ λ k. tt
+    ]) refl
+
 -- `d`
 pub delete-left : (zone : Bounds) (facts : Facts) (marks : List Bool) (number : Numbers) (e : editor.State) (x : Span) → Takes zone facts marks number e x → 1 ≤ x.first → x.first ≤ x.last → FactsAreLeft zone facts marks deletion (effects.delete x e).state
 delete-left zone facts marks number e x t from order letters patterns after_marks after q all =
@@ -118,17 +162,9 @@ change-left zone facts marks number e x line more t from order letters patterns 
 -- `a` with a text
 pub append-left : (zone : Bounds) (facts : Facts) (marks : List Bool) (number : Numbers) (e : editor.State) (x : Span) (line : List ℕ) (more : List (List ℕ)) → Takes zone facts marks number e x → x.first ≤ length e.lines →
     FactsAreLeft zone facts marks (appending (line ∷ more)) (effects.append (line ∷ more) x e).state
-append-left zone facts marks number e x line more t inside letters patterns after_marks after q all =
-    let new : List Line = map plain_line (line ∷ more) in
-    let n : length new ≡ length (line ∷ more) = length-map (line ∷ more) plain_line in
-    let same : x.first + 1 - 1 ≡ x.first = omega arith in
-    let current : ℕ = x.first + length (line ∷ more) in
-    let first = t.first_is in
-    let left : IsLeft (x.first + 1) (length new) (length (exchanged (x.first + 1 - 1) x.first new e.lines)) current = inl (omega arith) in
-    subst (λ (k : ℕ). FactsHold (edited zone facts (appending (line ∷ more)) (map mark letters) patterns) after (exchanged k x.first new e.lines)) same
-    (facts-left zone facts (appending (line ∷ more)) marks after_marks number after e.lines new (x.first + 1) x.first e.current current letters t.holds t.facts_hold (omega arith) (omega arith)
-    (omega (arith, ints)) (at-first number 3 x.first t.first_is) (omega arith) (omega arith) inside t.reads
-    (subst (λ (k : ℕ). Reads after_marks (exchanged k x.first new e.lines) current after) (sym same) q) left (λ y. line_with-plain y (line ∷ more)) (entered-fresh (line ∷ more)) all patterns)
+append-left zone facts marks number e x line more t inside =
+    add-left zone facts marks number e 3 x.first (Some (map entered_line (line ∷ more))) (line ∷ more) t.holds t.facts_hold t.reads (omega arith) t.first_is inside
+    (entered-fresh (line ∷ more))
 
 -- `i` with a text
 pub insert-left : (zone : Bounds) (facts : Facts) (marks : List Bool) (number : Numbers) (e : editor.State) (x : Span) (line : List ℕ) (more : List (List ℕ)) → Takes zone facts marks number e x → 1 ≤ x.first → x.first ≤ length e.lines + 1 →
@@ -147,3 +183,30 @@ pub join-left : (zone : Bounds) (facts : Facts) (marks : List Bool) (number : Nu
 join-left zone facts marks number e x joined t from order letters patterns after_marks after q all =
     facts-left zone facts joining marks after_marks number after e.lines (plain_line joined ∷ []) x.first x.last e.current x.first letters t.holds t.facts_hold (omega arith) (omega arith)
     (at-first number 3 x.first t.first_is) (at-first number 4 x.last t.last_is) from (omega arith) t.inside t.reads q (inl (omega arith)) (λ y. line_with-plain y (joined ∷ [])) ((λ p answer h. absurd cc), tt) all patterns
+
+-- one line of which nothing is known
+unknown-fresh : (new : List Line) → length new ≡ 1 → AreFresh ((λ pattern. None) ∷ []) new
+unknown-fresh [] one = absurd (omega arith)
+unknown-fresh (line ∷ []) one = ((λ p answer h. absurd cc), tt)
+unknown-fresh (line ∷ more ∷ new) one = absurd (omega arith)
+
+rewritten-fresh : (splits : Bool) (new : List Line) → (splits ≡ false → length new ≡ 1) → AreFreshIf (rewriting splits).fresh new
+rewritten-fresh true new one = tt
+rewritten-fresh false new one = unknown-fresh new (one refl)
+
+-- `s` of one line
+pub rewrite-left : (zone : Bounds) (facts : Facts) (marks : List Bool) (number : Numbers) (e : editor.State) (x : Span) (splits : Bool) (new : List Line) (made : editor.State) →
+    Takes zone facts marks number e x → 1 ≤ x.first → x.first ≤ x.last → (splits ≡ false → length new ≡ 1) → ((y : ℕ) → line_with y new ≡ None) →
+    made.lines ≡ replaced x.first x.last new e.lines → made.current + 1 ≡ x.first + length new → FactsAreLeft zone facts marks (rewriting splits) made
+rewrite-left zone facts marks number e x splits new made t from order one none is last letters patterns after_marks after q all =
+    subst (λ (ls : List Line). FactsHold (edited zone facts (rewriting splits) (map mark letters) patterns) after ls) (sym is)
+    (facts-left zone facts (rewriting splits) marks after_marks number after e.lines new x.first x.last e.current made.current letters t.holds t.facts_hold (omega arith) (omega arith)
+    (at-first number 3 x.first t.first_is) (at-first number 4 x.last t.last_is) from (omega arith) t.inside t.reads
+    (subst (λ (ls : List Line). Reads after_marks ls made.current after) is q) (inl last) none (rewritten-fresh splits new one) all patterns)
+
+-- `t`
+pub copy-left : (zone : Bounds) (facts : Facts) (marks : List Bool) (number : Numbers) (e : editor.State) (x : Span) (target : ℕ) → Takes zone facts marks number e x → 1 ≤ x.first → x.first ≤ x.last →
+    number 5 ≡ pos target → target ≤ length e.lines → FactsAreLeft zone facts marks (copying zone facts) (effects.copy x target e).state
+copy-left zone facts marks number e x target t from order is inside =
+    add-left zone facts marks number e 5 target (copying zone facts).fresh (texts (between x.first x.last e.lines)) t.holds t.facts_hold t.reads (omega arith) is inside
+    (copied-fresh zone facts number e.lines x.first x.last t.holds t.facts_hold t.first_is t.last_is from order t.inside)

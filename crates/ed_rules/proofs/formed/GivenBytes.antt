@@ -5,7 +5,7 @@ use Rattle.std.proofs.lemmas.List.Elements.{All-nil, All-cons, All-append}
 use Rattle.ed_syntax.specs.Commands as ed
 use Rattle.ed_syntax.specs.Commands.{Base, Address, Addresses, Without, One, Comma, Semicolon, Verb, Command}
 use Rattle.ed_syntax.specs.meaning.Verbs.{takes}
-use Rattle.ed_rules.specs.Matched.{sought_at, sought_by, sought_at_target, sought}
+use Rattle.ed_rules.specs.Matched.{sought_at, sought_by, sought_at_target, sought, asked_for}
 use Rattle.ed_rules.specs.Formed.{ChoiceIsBytes, BaseIsBytes, AddressesAreBytes, TargetIsBytes, VerbIsBytes, TextsAreBytes}
 
 abbrev pub TextIsBytes : List ℕ → Type 0
@@ -34,6 +34,10 @@ pub sought-bytes : (c : Command) → TextsAreBytes c → All TextIsBytes (sought
 sought-bytes c h =
     All-append TextIsBytes (sought_by c.addresses) (sought_at_target (takes c.verb).target) (addresses-bytes c.addresses h.0)
     (sought_target-bytes (takes c.verb).target h.1.0)
+
+pub asked-bytes : (text : Option (List ℕ)) → ChoiceIsBytes text → All TextIsBytes (asked_for text)
+asked-bytes None h = All-nil TextIsBytes
+asked-bytes (Some text) h = All-cons TextIsBytes text [] h (All-nil TextIsBytes)
 
 given-bytes : (text : Option (List ℕ)) → ChoiceIsBytes text → IfSome text TextIsBytes
 given-bytes None h = tt

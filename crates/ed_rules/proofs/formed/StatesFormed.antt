@@ -15,6 +15,8 @@ use Rattle.ed_rules.specs.Pieces.{with_zone}
 use Rattle.ed_rules.specs.Rules.{effect, step}
 use Rattle.ed_rules.specs.Globals.{taken_matches, with_old, finished, line_taken, body_entry, list_may_alter, old_if, undo_of_global, loop_end}
 use Rattle.ed_rules.specs.Matching.{saying, matches_after}
+use Rattle.ed_rules.specs.FactsAfter.{facts_after}
+use Rattle.ed_rules.specs.facts.Facts.{Facts, no_facts}
 use Rattle.ed_rules.proofs.formed.SpeakingPieces.{Speaks-start, Inner-line_taken}
 use Rattle.ed_rules.proofs.formed.RisingChoices.{SetIsFormed-only}
 use Rattle.ed_rules.proofs.formed.CountedLines.{start-counted}
@@ -39,13 +41,13 @@ unfolding start
 start-formed path min max has b =
     record { formed = Closed-formed (start path min max has) (Closed-start path min max has b); counted = start-counted min max }
 
--- what is known of matches is said beside
+-- what is known of matches and of single lines is said beside
 
-matching-ended : (s : State) (m : Matches) → AtEnd s → AtEnd (saying m s)
-matching-ended s m h = (record { letters = h.0.letters; zone = h.0.zone; aside = h.0.aside }, h.1)
+matching-ended : (s : State) (m : Matches) (facts : Facts) → AtEnd s → AtEnd (saying m facts s)
+matching-ended s m facts h = (record { letters = h.0.letters; zone = h.0.zone; aside = h.0.aside }, h.1)
 
-matching-forming : (s : State) (m : Matches) → Forming s → Forming (saying m s)
-matching-forming s m h = record { letters = h.letters; zone = h.zone; aside = h.aside }
+matching-forming : (s : State) (m : Matches) (facts : Facts) → Forming s → Forming (saying m facts s)
+matching-forming s m facts h = record { letters = h.letters; zone = h.zone; aside = h.aside }
 
 pub join-formed : (one other : State) → IsFormed one → IsFormed other → IsFormed (join one other)
 join-formed one other h k = Closed-formed (join one other) (Closed-join one other (formed-Closed one h) (formed-Closed other k))
@@ -60,9 +62,9 @@ entry-formed verb invariant h =
     let f : Forming invariant = Closed-forming invariant (formed-Closed invariant h) in
     let t : State = with_zone (line_taken invariant.zone) invariant in
     let m : Matches = record invariant.matches { has = taken_matches verb invariant.matches.has } in
-    AtEnd-ended (finished (saying m t))
-    (finished-AtEnd (saying m t)
-    (matching-forming t m (forming-zone invariant (line_taken invariant.zone) (Inner-line_taken invariant.marks invariant.zone f.zone) f)))
+    AtEnd-ended (finished (saying m no_facts t))
+    (finished-AtEnd (saying m no_facts t)
+    (matching-forming t m no_facts (forming-zone invariant (line_taken invariant.zone) (Inner-line_taken invariant.marks invariant.zone f.zone) f)))
 
 old_if-speaks : (b : Bool) (before : State) → Closed before → OldSpeaks (old_if b before)
 old_if-speaks true before h = (h.letters, h.zone)
@@ -87,7 +89,7 @@ command-formed watched c s b h =
     IfOk-weaker (step watched c s) AtEnd IsEnded AtEnd-ended
     (rule-through Forming TextIsBytes forming-at AtEnd watched c s (sought-bytes c b) (Closed-forming s closed)
     (λ u k. IfOk-weaker (effect c.listed c.addresses c.verb s u) Forming _
-    (λ r q. matching-ended (finished r) (matches_after watched c.listed c.addresses (takes c.verb).lines s u)
+    (λ r q. matching-ended (finished r) (matches_after watched c.listed c.addresses (takes c.verb).lines s u) (facts_after watched c.listed c.addresses c.verb u r)
     (finished-AtEnd r q))
     (effect-through Forming TextIsBytes TextIsBytes (Unit {0}) s (forming-kept s closed) c.listed c.addresses c.verb u
     (pattern-bytes c.verb b.1) (path-bytes c.verb b.1) (λ _. tt) k)))

@@ -34,6 +34,7 @@ use Rattle.std.proofs.Common.{cond, take}
 use Rattle.ed_rules.specs.Addresses.{evaluated, addressed, standing, targeted, ranged}
 use Rattle.ed_rules.specs.declared.matching.Certainty.TheVariants.{Never, Maybe, Surely}
 use Rattle.ed_rules.specs.Matching.{joining, joining_given, saying, matches_after}
+use Rattle.ed_rules.specs.FactsAfter.{facts_after}
 use Rattle.ed_rules.specs.Rules.{taken, effect, suffixed, step_at, step}
 use Rattle.ed_syntax.specs.spelling.Readable.{enters_lines}
 use Rattle.ed_rules.proofs.Basics.{Agrees, Agrees-weaker}
@@ -81,11 +82,11 @@ Tells R (Ok t) (Err f) = Unit {0}
 Tells R (Ok t) (Ok (Asks r)) = Unit {0}
 Tells R (Ok t) (Ok (Makes o)) = R t o
 
-tells-nothing : (R : State → Outcome → Type 0) (x : Result State Fault) (f : Fault) → Tells R x (Err f)
+pub tells-nothing : (R : State → Outcome → Type 0) (x : Result State Fault) (f : Fault) → Tells R x (Err f)
 tells-nothing R (Ok t) f = tt
 tells-nothing R (Err e) f = tt
 
-tells-bind : {A B : Type 0} (R : State → Outcome → Type 0) (P : A → Type 0) (Q : B → Type 0) (x : Result A Fault) (y : Result B Fault) (f : A → Result State Fault) (g : B → Result Effect Fault) →
+pub tells-bind : {A B : Type 0} (R : State → Outcome → Type 0) (P : A → Type 0) (Q : B → Type 0) (x : Result A Fault) (y : Result B Fault) (f : A → Result State Fault) (g : B → Result Effect Fault) →
     IfOk x P → IfOk y Q → ((a : A) (b : B) → P a → Q b → Tells R (f a) (g b)) → Tells R (x >> f) (y >> g)
 tells-bind R P Q (Ok a) (Ok b) f g h k i = i a b h k
 tells-bind R P Q (Ok a) (Err e) f g h k i = tells-nothing R (f a) e
@@ -158,7 +159,8 @@ suits-all given zone lines _ x h = tt
 module _ (watched : List (List ℕ)) (c : Command) (answer : Option Answer) (s : State) (e : editor.State) (st : StandsFor s e) where
   -- the last ones
   acted : (u : State) (q : editor.State) (x : Span) (target : ℕ) → SameMatches s u → SameBuffer e q → InOrder x → Suiting c.addresses u.zone q.lines c.verb x →
-      Tells Holds (effect c.listed c.addresses c.verb s u >> λ r. suffixed c.suffix (saying (matches_after watched c.listed c.addresses (takes c.verb).lines s u) (with_zone (ended r.marks r.zone) r)))
+      Tells Holds (effect c.listed c.addresses c.verb s u >> λ r. suffixed c.suffix (saying (matches_after watched c.listed c.addresses (takes c.verb).lines s u) (facts_after watched c.listed c.addresses c.verb u r)
+      (with_zone (ended r.marks r.zone) r)))
       (effect_of c.verb c.listed x target q answer >> completed c e)
   acted u q x target same buffer order k =
       let m : Matches = matches_after watched c.listed c.addresses (takes c.verb).lines s u in
@@ -172,7 +174,7 @@ module _ (watched : List (List ℕ)) (c : Command) (answer : Option Answer) (s :
       let P : State → Type 0 = λ (t : State). t.matches ≡ m in
       tells-so m _ _
       (IfOk-bind (λ (_ : State). Unit {0}) P (effect c.listed c.addresses c.verb s u) _ (always (effect c.listed c.addresses c.verb s u))
-      (λ r _. suffixed-through P c.suffix (saying m (with_zone (ended r.marks r.zone) r)) refl))
+      (λ r _. suffixed-through P c.suffix (saying m (facts_after watched c.listed c.addresses c.verb u r) (with_zone (ended r.marks r.zone) r)) refl))
       (completed-left watched c.listed c.addresses s u e q st.matches holds may c refl m (effect_of c.verb c.listed x target q answer)
       (effect-left watched c.listed c.addresses s u e q st.matches holds may c.verb x target answer order k))
 

@@ -11,13 +11,13 @@ use Rattle.ed_syntax.specs.meaning.Verbs.{takes}
 use Rattle.ed_syntax.specs.declared.command.Sense.TheVariants as sense
 use Rattle.ed_rules.specs.declared.state.State.{State}
 use Rattle.ed_rules.specs.Choices.{Choice}
-use Rattle.ed_rules.specs.Matched.{sought, sought_by_step, sought_in, watched}
+use Rattle.ed_rules.specs.Matched.{sought, asked_for, given_by, given_by_step, given_in, watched}
 use Rattle.ed_rules.specs.Formed.{ChoiceIsBytes, VerbIsBytes, TextsAreBytes, TextsAreFormed, IsOfLines, MatchesAreFormed}
 use Rattle.ed_rules.specs.States.{start}
 use Rattle.ed_rules.specs.Order.{join, widen}
 use Rattle.ed_rules.specs.Rules.{effect, step}
 use Rattle.ed_rules.specs.Globals.{taken_matches, old_if, old_has_if, body_entry, list_may_alter, loop_end}
-use Rattle.ed_rules.proofs.formed.GivenBytes.{TextIsBytes, sought-bytes}
+use Rattle.ed_rules.proofs.formed.GivenBytes.{TextIsBytes, sought-bytes, asked-bytes}
 use Rattle.ed_rules.proofs.formed.RisingTexts.{none-formed, filter-formed, with_text-formed, with_texts-formed}
 use Rattle.ed_rules.proofs.matches.OldMatches.{both-of_lines, effect-of_lines}
 use Rattle.ed_rules.proofs.matches.Sayings.{OfSets, AreSaid, Says, says-after, says-join, says-widen, says-entry}
@@ -99,11 +99,17 @@ flat-bytes P f b (x ∷ xs) h =
 abbrev StepIsBytes : Step → Type 0
 StepIsBytes x = TextsAreBytes x.command × All TextsAreBytes x.list
 
-step-bytes : (x : Step) → StepIsBytes x → All TextIsBytes (sought_by_step x)
-step-bytes x h =
-    All-append TextIsBytes (sought x.command) (flat_map sought x.list) (sought-bytes x.command h.0) (flat-bytes TextsAreBytes sought sought-bytes x.list h.1)
+command-bytes : (follows : Bool) (c : Command) → TextsAreBytes c → All TextIsBytes (given_by follows c)
+command-bytes true c h =
+    All-append TextIsBytes (sought c) (asked_for (takes c.verb).pattern) (sought-bytes c h) (asked-bytes (takes c.verb).pattern h.1.1)
+command-bytes false c h = sought-bytes c h
 
-pub watched-formed : (script : Script) (has : List (List ℕ)) → All StepIsBytes script.steps → TextsAreFormed has → TextsAreFormed (watched script has)
-watched-formed script has b h =
-    with_texts-formed (sought_in script) has
-    (All-map ChoiceIsBytes (λ text. Some text) (sought_in script) (flat-bytes StepIsBytes sought_by_step step-bytes script.steps b)) h
+step-bytes : (follows : Bool) (x : Step) → StepIsBytes x → All TextIsBytes (given_by_step follows x)
+step-bytes follows x h =
+    All-append TextIsBytes (given_by follows x.command) (flat_map (given_by follows) x.list) (command-bytes follows x.command h.0)
+    (flat-bytes TextsAreBytes (given_by follows) (command-bytes follows) x.list h.1)
+
+pub watched-formed : (follows : Bool) (script : Script) (has : List (List ℕ)) → All StepIsBytes script.steps → TextsAreFormed has → TextsAreFormed (watched follows script has)
+watched-formed follows script has b h =
+    with_texts-formed (given_in follows script) has
+    (All-map ChoiceIsBytes (λ text. Some text) (given_in follows script) (flat-bytes StepIsBytes (given_by_step follows) (step-bytes follows) script.steps b)) h

@@ -23,9 +23,14 @@ texts-next {D = D} f value xs i d all set new h is old now =
     ∙ ap (λ (t : List (List ℕ)). with_texts (flat_map f (map value (drop (i + 1) xs))) t) (sym now)
 
 -- a text that is no pattern matches nothing
-matched-none : (text : List ℕ) (fault : BreFault) → pattern text ≡ Err fault → (line : List ℕ) → matches text line ≡ false
+pub matched-none : (text : List ℕ) (fault : BreFault) → pattern text ≡ Err fault → (line : List ℕ) → matches text line ≡ false
 matched-none text fault is line =
     ap (λ (r : Result Tree BreFault). elim r as (λ _. Bool) [ Ok tree ↦ is_some (match_from tree line 0) | Err f ↦ false ]) is
+
+-- a pattern that was read matches by its tree
+pub matched-by : (text : List ℕ) (tree : Tree) → pattern text ≡ Ok tree → (line : List ℕ) → matches text line ≡ is_some (match_from tree line 0)
+matched-by text tree is line =
+    ap (λ (r : Result Tree BreFault). elim r as (λ _. Bool) [ Ok t ↦ is_some (match_from t line 0) | Err f ↦ false ]) is
 
 pub none-matches : (text : List ℕ) (fault : BreFault) (lines : List (List ℕ)) → pattern text ≡ Err fault → list_any (matches text) lines ≡ false
 none-matches text fault [] is = refl

@@ -33,7 +33,7 @@ use Rattle.ed_syntax.specs.meaning.Globals.{flagged}
 use Rattle.ed_syntax.specs.meaning.SubstitutedLines.{substitute}
 use Rattle.ed_rules.proofs.Basics.{Agrees}
 use Rattle.ed_rules.proofs.sound.Standing.{StandsBy-temporary, StandsBy-current, StandsBy-guarded, Reads-temporary, Begins}
-use Rattle.ed_rules.proofs.sound.Following.{FollowedHold}
+use Rattle.ed_rules.proofs.sound.Following.{FollowedHold, followed-set, FactsHold-lifted}
 use Rattle.ed_rules.proofs.sound.Addressing.{StandsBy-set, Valued, valued-sound, Names, NamesOf, Addressed, AddressedIn, command_addressed}
 use Rattle.ed_rules.proofs.sound.Spans.{Spans, Ranges}
 use Rattle.ed_rules.proofs.sound.Effects.{append-follows, delete-follows, insert-follows, change-follows, join-follows, join-one, copy-follows, mark-follows, move-follows}
@@ -70,34 +70,47 @@ names-given (One a) g vs lines v n = record { first_is = n.first_is; last_is = n
 names-given (Comma a b) g vs lines v n = n
 names-given (Semicolon a b) g vs lines v n = n
 
+-- the lines of a span, if what is said of single lines is true of the same numbers
+abbrev pub SpansKnown : State → editor.State → Span → Type 0
+SpansKnown s e x = (r : Spans s e x) × FollowedHold s r.numbers e.lines
+
 -- the last of two addresses in place of the first
-last_for_both : (t : State) (p : editor.State × List ℕ) (v : Numbers) → StandsBy t p.0 v → Names ⊥ p.1 p.0.lines v →
-    Spans (copied 3 4 t) p.0 (span (last_of_two p.1) (last_of_two p.1))
-last_for_both t p v st n =
-    let l = n.last_is in
-    record {
-      numbers = updated v 3 (pos (last_of_two p.1));
-      stands = StandsBy-set t p.0 v 3 4 (pos 0) (pos (last_of_two p.1)) (omega arith) (omega arith) (omega arith) (omega (arith, ints)) st;
-      first_is = refl;
-      last_is = n.last_is;
-      first_in = n.last_in;
-      last_in = n.last_in;
-    }
+last_for_both : (t : State) (p : editor.State × List ℕ) (v : Numbers) → StandsBy t p.0 v → Names ⊥ p.1 p.0.lines v → FollowedHold t v p.0.lines →
+    SpansKnown (copied 3 4 t) p.0 (span (last_of_two p.1) (last_of_two p.1))
+last_for_both t p v st n followed =
+    let l = n.last_is in (
+      record {
+        numbers = updated v 3 (pos (last_of_two p.1));
+        stands = StandsBy-set t p.0 v 3 4 (pos 0) (pos (last_of_two p.1)) (omega arith) (omega arith) (omega arith) (omega (arith, ints)) st;
+        first_is = refl;
+        last_is = n.last_is;
+        first_in = n.last_in;
+        last_in = n.last_in;
+      },
+      followed-set t p.0 v 3 4 (pos 0) (pos (last_of_two p.1)) (omega arith) (omega arith) (λ (q : 2 ≡ 3). omega arith) (omega (arith, ints)) st followed,
+    )
 
 -- what a command of one address takes
+pub last_given-known : (a : Addresses) → IsGiven a → (t : State) (p : editor.State × List ℕ) → Addressed (NamesOf a) t p →
+    SpansKnown (last_given a t) p.0 (span (last_of_two p.1) (last_of_two p.1))
+last_given-known Without g t p h = absurd g
+last_given-known (One a) g t p h = (
+  record {
+    numbers = h.numbers;
+    stands = h.stands;
+    first_is = h.names.first_is ∙ ap pos (h.names.same tt);
+    last_is = h.names.last_is;
+    first_in = h.names.last_in;
+    last_in = h.names.last_in;
+  },
+  h.followed,
+)
+last_given-known (Comma a b) g t p h = last_for_both t p h.numbers h.stands h.names h.followed
+last_given-known (Semicolon a b) g t p h = last_for_both t p h.numbers h.stands h.names h.followed
+
 last_given-spans : (a : Addresses) → IsGiven a → (t : State) (p : editor.State × List ℕ) → Addressed (NamesOf a) t p →
     Spans (last_given a t) p.0 (span (last_of_two p.1) (last_of_two p.1))
-last_given-spans Without g t p h = absurd g
-last_given-spans (One a) g t p h = record {
-  numbers = h.numbers;
-  stands = h.stands;
-  first_is = h.names.first_is ∙ ap pos (h.names.same tt);
-  last_is = h.names.last_is;
-  first_in = h.names.last_in;
-  last_in = h.names.last_in;
-}
-last_given-spans (Comma a b) g t p h = last_for_both t p h.numbers h.stands h.names
-last_given-spans (Semicolon a b) g t p h = last_for_both t p h.numbers h.stands h.names
+last_given-spans a g t p h = (last_given-known a g t p h).0
 
 pub ordered-is : (a b : ℕ) → 1 ≤ a → a ≤ b → ordered a b ≡ Ok (span a b)
 ordered-is a b h k = rw (le-leb 1 a h, ordered) (rw (le-leb a b k) refl)
@@ -106,8 +119,8 @@ single-is : (n : ℕ) → 1 ≤ n → single n ≡ Ok (span n n)
 single-is zero h = absurd (omega arith)
 single-is (suc n) h = refl
 
-abbrev InRange : editor.State → State → Span → Type 0
-InRange e u x = Ranges u e x
+abbrev pub InRange : editor.State → State → Span → Type 0
+InRange e u x = (r : Ranges u e x) × FollowedHold u r.spans.numbers e.lines
 
 -- a range, and what else is said of the same numbers
 abbrev pub RangeAlso : (State → Numbers → Type 0) → editor.State → State → Span → Type 0
@@ -157,21 +170,22 @@ pub range-sound : (a : Addresses) → IsGiven a → (t : State) (p : editor.Stat
 range-sound a g t p count h =
     range-with Nothing_more t p.0 p.1 h.numbers count h.stands (names-given a g p.1 p.0.lines h.numbers h.names) tt
 
-abbrev AtLine : editor.State → State → Span → Type 0
-AtLine e u x = Ranges u e x × (x.first ≡ x.last)
+abbrev pub AtLine : editor.State → State → Span → Type 0
+AtLine e u x = (r : Ranges u e x) × (x.first ≡ x.last) × FollowedHold u r.spans.numbers e.lines
 
-one_line-sound : (given a : Addresses) → IsGiven a → (t : State) (p : editor.State × List ℕ) (count : ℕ) → Addressed (NamesOf a) t p →
+pub one_line-sound : (given a : Addresses) → IsGiven a → (t : State) (p : editor.State × List ℕ) (count : ℕ) → Addressed (NamesOf a) t p →
     Agrees (AtLine p.0) (taken many.OneLine given a t) (spanned many.OneLine count p.1)
 one_line-sound given a g t p count h =
     let u : State = last_given a t in
     let n : ℕ = last_of_two p.1 in
-    let r : Spans u p.0 (span n n) = last_given-spans a g t p h in
+    let both : SpansKnown u p.0 (span n n) = last_given-known a g t p h in
+    let r : Spans u p.0 (span n n) = both.0 in
     Agrees-needing (AtLine p.0) (known u.zone 0 3 (negsuc 0)) fault.Address u (spanned many.OneLine count p.1) (λ k.
     let k1 = known-true u.zone r.numbers 0 3 (negsuc 0) k (omega arith) (omega arith) r.stands.buffer.holds in
     let f = r.first_is in
     let z = r.stands.buffer.reads.zero_is in
     let from : 1 ≤ n = omega (arith, ints) in
-    Agrees-ok (AtLine p.0) u (span n n) (spanned many.OneLine count p.1) (single-is n from) (record { spans = r; from = from; order = omega arith }, refl))
+    Agrees-ok (AtLine p.0) u (span n n) (spanned many.OneLine count p.1) (single-is n from) (record { spans = r; from = from; order = omega arith }, refl, both.1))
 
 -- which addresses a command's phases after them may meet
 abbrev pub Suits : Taking → Addresses → Type 0
@@ -195,8 +209,10 @@ suits (ed.Global sense pattern) = refl
 suits _ = tt
 
 -- 0 stands for 1, for `i`
-abbrev FirstPlaces : editor.State → State → Span → Type 0
-FirstPlaces e u x = (v : Numbers) × StandsBy u e v × (v 3 ≡ pos x.first) × (1 ≤ x.first) × (x.first ≤ length e.lines + 1)
+abbrev pub FirstPlaces : editor.State → State → Span → Type 0
+FirstPlaces e u x =
+    (v : Numbers) × StandsBy u e v × (v 3 ≡ pos x.first) × (1 ≤ x.first) × (x.first ≤ length e.lines + 1) × FollowedHold u v e.lines ×
+    ((m : ℕ) × (v 4 ≡ pos m) × (m ≤ length e.lines))
 
 StandsBy-lifted : (s : State) (e : editor.State) (v : Numbers) (x n : ℕ) → 3 ≤ x → x < 6 → v x ≡ pos n → (1 ≤ length e.lines → n ≤ length e.lines) → StandsBy s e v →
     StandsBy (with_zone (lifted x s.zone) s) e (updated v x (pos (max 1 n)))
@@ -211,13 +227,21 @@ StandsBy-lifted s e v x n lo hi vx inside st = record {
   past = st.past;
 }
 
-first_place-sound : (given a : Addresses) → IsGiven a → (t : State) (p : editor.State × List ℕ) (count : ℕ) → Addressed (NamesOf a) t p →
+pub first_place-sound : (given a : Addresses) → IsGiven a → (t : State) (p : editor.State × List ℕ) (count : ℕ) → Addressed (NamesOf a) t p →
     Agrees (FirstPlaces p.0) (taken many.FirstPlace given a t) (spanned many.FirstPlace count p.1)
 first_place-sound given a g t p count h =
-    let r = last_given-spans a g t p h in
+    let q = last_given-known a g t p h in
+    let r : Spans (last_given a t) p.0 (span (last_of_two p.1) (last_of_two p.1)) = q.0 in
     let n : ℕ = last_of_two p.1 in
-    let inside = r.first_in in
-    (updated r.numbers 3 (pos (max 1 n)), StandsBy-lifted (last_given a t) p.0 r.numbers 3 n (omega arith) (omega arith) r.first_is (λ _. r.first_in) r.stands, refl, omega arith, omega arith)
+    let inside = r.first_in in (
+      updated r.numbers 3 (pos (max 1 n)),
+      StandsBy-lifted (last_given a t) p.0 r.numbers 3 n (omega arith) (omega arith) r.first_is (λ _. r.first_in) r.stands,
+      refl,
+      omega arith,
+      omega arith,
+      λ e. FactsHold-lifted 3 n (last_given a t).facts r.numbers p.0.lines (omega arith) (λ (z : 2 ≡ 3). omega arith) r.first_is (q.1 e),
+      (n, r.last_is, r.last_in),
+    )
 
 -- both lifted, for `c`
 abbrev pub from_zero : ℕ → ℕ → Span
@@ -228,22 +252,29 @@ from_first-is a b count h k = rw (le-leb a b h, le-leb (max 1 b) count k, from_f
 
 -- numbers for both lifted addresses
 abbrev Lifted : editor.State → ℕ → ℕ → Bounds → State → Type 0
-Lifted e a b zone s = (v : Numbers) × StandsBy (with_zone zone s) e v × (v 3 ≡ pos (max 1 a)) × (v 4 ≡ pos (max 1 b))
+Lifted e a b zone s =
+    (v : Numbers) × StandsBy (with_zone zone s) e v × (v 3 ≡ pos (max 1 a)) × (v 4 ≡ pos (max 1 b)) × FollowedHold s v e.lines
 
 lifted-both : (s : State) (e : editor.State) (v : Numbers) (a b : ℕ) → v 3 ≡ pos a → v 4 ≡ pos b → a ≤ length e.lines → b ≤ length e.lines → a ≤ b → StandsBy s e v →
-    Lifted e a b (after_guard (lifted 4 (lifted 3 s.zone)) 3 4 (pos 0)) s
-lifted-both s e v a b va vb ha hb h st =
+    FollowedHold s v e.lines → Lifted e a b (after_guard (lifted 4 (lifted 3 s.zone)) 3 4 (pos 0)) s
+lifted-both s e v a b va vb ha hb h st followed =
     let v3 : Numbers = updated v 3 (pos (max 1 a)) in
     let s3 : State = with_zone (lifted 3 s.zone) s in
     let st3 : StandsBy s3 e v3 = StandsBy-lifted s e v 3 a (omega arith) (omega arith) va (λ _. ha) st in
     let v4 : Numbers = updated v3 4 (pos (max 1 b)) in
     let st4 : StandsBy (with_zone (lifted 4 s3.zone) s3) e v4 = StandsBy-lifted s3 e v3 4 b (omega arith) (omega arith) vb (λ _. hb) st3 in
-    let le : max 1 a ≤ max 1 b = omega arith in
-    (v4, StandsBy-guarded (with_zone (lifted 4 s3.zone) s3) e v4 3 4 (pos 0) (omega arith) (omega arith) (omega (arith, ints)) st4, refl, refl)
+    let le : max 1 a ≤ max 1 b = omega arith in (
+      v4,
+      StandsBy-guarded (with_zone (lifted 4 s3.zone) s3) e v4 3 4 (pos 0) (omega arith) (omega arith) (omega (arith, ints)) st4,
+      refl,
+      refl,
+      λ q. FactsHold-lifted 4 b s.facts v3 e.lines (omega arith) (λ (z : 2 ≡ 4). omega arith) vb
+          (FactsHold-lifted 3 a s.facts v e.lines (omega arith) (λ (z : 2 ≡ 3). omega arith) va (followed q)),
+    )
 
-lifted-one : (s : State) (e : editor.State) (v : Numbers) (a : ℕ) → v 3 ≡ pos a → a ≤ length e.lines → StandsBy s e v →
+lifted-one : (s : State) (e : editor.State) (v : Numbers) (a : ℕ) → v 3 ≡ pos a → v 4 ≡ pos a → a ≤ length e.lines → StandsBy s e v → FollowedHold s v e.lines →
     Lifted e a a (after_guard (lifted 4 (after_set (lifted 3 s.zone) 4 3 (pos 0))) 3 4 (pos 0)) s
-lifted-one s e v a va ha st =
+lifted-one s e v a va vb ha st followed =
     let m : ℕ = max 1 a in
     let v3 : Numbers = updated v 3 (pos m) in
     let s3 : State = with_zone (lifted 3 s.zone) s in
@@ -254,36 +285,45 @@ lifted-one s e v a va ha st =
     let v5 : Numbers = updated v4 4 (pos (max 1 m)) in
     let s5 : State = with_zone (lifted 4 s4.zone) s4 in
     let st5 : StandsBy s5 e v5 = StandsBy-lifted s4 e v4 4 m (omega arith) (omega arith) refl (λ (some : 1 ≤ length e.lines). omega arith) st4 in
-    let same : max 1 m ≡ m = omega arith in
-    (v5, StandsBy-guarded s5 e v5 3 4 (pos 0) (omega arith) (omega arith) (omega (arith, ints)) st5, refl, ap pos same)
+    let same : max 1 m ≡ m = omega arith in (
+      v5,
+      StandsBy-guarded s5 e v5 3 4 (pos 0) (omega arith) (omega arith) (omega (arith, ints)) st5,
+      refl,
+      ap pos same,
+      λ q. FactsHold-lifted 4 m s.facts v4 e.lines (omega arith) (λ (z : 2 ≡ 4). omega arith) refl
+          (FactsHold-lifted 4 a s.facts v3 e.lines (omega arith) (λ (z : 2 ≡ 4). omega arith) vb
+          (FactsHold-lifted 3 a s.facts v e.lines (omega arith) (λ (z : 2 ≡ 3). omega arith) va (followed q))),
+    )
 
 -- the range of lifted addresses
-lifted-range : (e : editor.State) (u : State) (a b : ℕ) (v : Numbers) → StandsBy u e v → v 3 ≡ pos (max 1 a) → v 4 ≡ pos (max 1 b) → a ≤ b →
+lifted-range : (e : editor.State) (u : State) (a b : ℕ) (v : Numbers) → StandsBy u e v → v 3 ≡ pos (max 1 a) → v 4 ≡ pos (max 1 b) → FollowedHold u v e.lines → a ≤ b →
     (vs : List ℕ) → first_of_two vs ≡ a → last_of_two vs ≡ b → Agrees (InRange e) (ranged u) (spanned many.Lines (length e.lines) vs)
-lifted-range e u a b v st va vb le vs fa lb =
+lifted-range e u a b v st va vb followed le vs fa lb =
     Agrees-needing (InRange e) _ fault.Address u (spanned many.Lines (length e.lines) vs) (λ k.
     let three = and_parts (known u.zone 0 3 (negsuc 0) && known u.zone 3 4 (pos 0)) (known u.zone 4 2 (pos 0)) k in
     let k3 = known-true u.zone v 4 2 (pos 0) three.1 (omega arith) (omega arith) st.buffer.holds in
     let c = st.buffer.reads.last_is in
     let inside : max 1 b ≤ length e.lines = omega (arith, ints) in
     Agrees-ok (InRange e) u (from_zero a b) (spanned many.Lines (length e.lines) vs)
-    (rw (fa, lb) (from_first-is a b (length e.lines) le inside))
-    (record {
-      spans = record { numbers = v; stands = st; first_is = va; last_is = vb; first_in = omega arith; last_in = inside };
-      from = omega arith;
-      order = omega arith;
-    }))
+    (rw (fa, lb) (from_first-is a b (length e.lines) le inside)) (
+      record {
+        spans = record { numbers = v; stands = st; first_is = va; last_is = vb; first_in = omega arith; last_in = inside };
+        from = omega arith;
+        order = omega arith;
+      },
+      followed,
+    ))
 
 lifted-given : (given d : Addresses) → IsGiven d → (t : State) (p : editor.State × List ℕ) (h : Addressed (NamesOf (given_or given d)) t p) → first_of_two p.1 ≤ last_of_two p.1 →
     Lifted p.0 (first_of_two p.1) (last_of_two p.1) (lifted_range given t.zone) t
 lifted-given Without d g t p h le =
     let n = names-given d g p.1 p.0.lines h.numbers h.names in
-    lifted-both t p.0 h.numbers (first_of_two p.1) (last_of_two p.1) n.first_is n.last_is n.first_in n.last_in le h.stands
+    lifted-both t p.0 h.numbers (first_of_two p.1) (last_of_two p.1) n.first_is n.last_is n.first_in n.last_in le h.stands h.followed
 lifted-given (One b) d g t p h le =
     subst (λ (l : ℕ). Lifted p.0 (first_of_two p.1) l (lifted_range (One b) t.zone) t) (h.names.same tt)
-    (lifted-one t p.0 h.numbers (first_of_two p.1) h.names.first_is h.names.first_in h.stands)
-lifted-given (Comma b c) d g t p h le = lifted-both t p.0 h.numbers (first_of_two p.1) (last_of_two p.1) h.names.first_is h.names.last_is h.names.first_in h.names.last_in le h.stands
-lifted-given (Semicolon b c) d g t p h le = lifted-both t p.0 h.numbers (first_of_two p.1) (last_of_two p.1) h.names.first_is h.names.last_is h.names.first_in h.names.last_in le h.stands
+    (lifted-one t p.0 h.numbers (first_of_two p.1) h.names.first_is (h.names.last_is ∙ ap pos (sym (h.names.same tt))) h.names.first_in h.stands h.followed)
+lifted-given (Comma b c) d g t p h le = lifted-both t p.0 h.numbers (first_of_two p.1) (last_of_two p.1) h.names.first_is h.names.last_is h.names.first_in h.names.last_in le h.stands h.followed
+lifted-given (Semicolon b c) d g t p h le = lifted-both t p.0 h.numbers (first_of_two p.1) (last_of_two p.1) h.names.first_is h.names.last_is h.names.first_in h.names.last_in le h.stands h.followed
 
 names-order : (a b : ℕ) (s : State) (e : editor.State) (v : Numbers) → StandsBy s e v → v 3 ≡ pos a → v 4 ≡ pos b → known s.zone 3 4 (pos 0) ≡ true → a ≤ b
 names-order a b s e v st va vb k =
@@ -291,7 +331,7 @@ names-order a b s e v st va vb k =
     omega (arith, ints)
 
 -- the lines of `c`
-lines-sound : (given d : Addresses) → IsGiven d → (t : State) (p : editor.State × List ℕ) → Addressed (NamesOf (given_or given d)) t p →
+pub lines-sound : (given d : Addresses) → IsGiven d → (t : State) (p : editor.State × List ℕ) → Addressed (NamesOf (given_or given d)) t p →
     Agrees (InRange p.0) (taken many.Lines given (given_or given d) t) (spanned many.Lines (length p.0.lines) p.1)
 lines-sound given d g t p h =
     let a : ℕ = first_of_two p.1 in
@@ -301,7 +341,7 @@ lines-sound given d g t p h =
     let both : known t.zone 3 4 (pos 0) ≡ true → Agrees (InRange p.0) (ranged u) (spanned many.Lines (length p.0.lines) p.1) = λ (k : known t.zone 3 4 (pos 0) ≡ true).
     let le = names-order a b t p.0 h.numbers h.stands n.first_is n.last_is k in
     let q = lifted-given given d g t p h le in
-    lifted-range p.0 u a b q.0 q.1 q.2 q.3 le p.1 refl refl in
+    lifted-range p.0 u a b q.0 q.1 q.2 q.3 q.4 le p.1 refl refl in
     Agrees-need_then (InRange p.0) (known t.zone 3 4 (pos 0)) fault.Address u ranged (spanned many.Lines (length p.0.lines) p.1) both
 
 abbrev pub Equal : Numbers → Type 0
@@ -335,6 +375,7 @@ pub record Targeted (p : editor.State) (vs : List ℕ) (t : State) (q : editor.S
   pub target_is : numbers 5 ≡ pos q.1
   pub target_in : q.1 ≤ length q.0.lines
   pub same_lines : q.0.lines ≡ p.lines
+  pub followed : FollowedHold t numbers q.0.lines
 
 pub targeted-sound : (to : Address) (t : State) (p : editor.State) (vs : List ℕ) (v : Numbers) → StandsBy t p v → Names ⊥ vs p.lines v → AreMatched t.matches.has p.lines →
     FollowedHold t v p.lines → Agrees (Targeted p vs) (evaluated 5 to t) (targeted (Some to) p)
@@ -347,6 +388,7 @@ targeted-sound to t p vs v st n matched followed =
       target_is = refl;
       target_in = r.1;
       same_lines = refl;
+      followed = r.3;
     })
 
 abbrev pub At_target : ℕ → Numbers → Type 0
@@ -357,8 +399,8 @@ given-whole : (a : Addresses) → IsGiven a → (t : State) (p : editor.State ×
     ((u : State) (x : Span) → changed_by_write a u.zone u.changed ≡ changed_by_lines u.zone u.changed) → Agrees (Written a p.0) (ranged t) (spanned many.Whole (length p.0.lines) p.1)
 given-whole a g t p h by =
     ranges-written a p.0 (ranged t) (spanned many.Whole (length p.0.lines) p.1) by
-    (whole-range (InRange p.0) (ranged t) (length p.0.lines) p.1
-    (Agrees-weaker (RangeWith Nothing_more p.0) (InRange p.0) (ranged t) (spanned many.Range (length p.0.lines) p.1) (λ u x r. r.0) (range-sound a g t p (length p.0.lines) h)))
+    (whole-range (λ u x. Ranges u p.0 x) (ranged t) (length p.0.lines) p.1
+    (Agrees-weaker (RangeWith Nothing_more p.0) (λ u x. Ranges u p.0 x) (ranged t) (spanned many.Range (length p.0.lines) p.1) (λ u x r. r.0) (range-sound a g t p (length p.0.lines) h)))
 
 -- `w`: given lines, or all
 whole-sound : (given d : Addresses) → d ≡ Without → (t : State) (p : editor.State × List ℕ) → Addressed (NamesOf (given_or given d)) t p →
@@ -401,7 +443,7 @@ module _ (order : SpansAreInOrder) (c : Command) (answer : Option Answer) (given
   after_addresses (ed.Change text) f g =
       Agrees-bind (InRange p.0) Final (taken many.Lines given (given_or given d) t) (spanned many.Lines (length e.lines) p.1) _ _
       (subst (λ (ls : List Line). Agrees (InRange p.0) (taken many.Lines given (given_or given d) t) (spanned many.Lines (length ls) p.1)) same_lines (lines-sound given d g t p h))
-      (λ u x r. finish-sound c e (modified c.listed s (replaced (length text) u)) (Makes (effects.change text x p.0)) (change-follows c.listed text s e start u p.0 x r))
+      (λ u x r. finish-sound c e (modified c.listed s (replaced (length text) u)) (Makes (effects.change text x p.0)) (change-follows c.listed text s e start u p.0 x r.0))
   after_addresses ed.Delete f g =
       Agrees-bind (RangeWith Nothing_more p.0) Final (ranged t) (spanned many.Range (length e.lines) p.1) _ _ (range-sound (given_or given d) (given_or-given given d g) t p (length e.lines) h)
       (λ u x r. finish-sound c e (modified c.listed s (replaced 0 u)) (Makes (effects.delete x p.0)) (delete-follows c.listed s e start u p.0 x r.0))
@@ -463,7 +505,7 @@ module _ (order : SpansAreInOrder) (c : Command) (answer : Option Answer) (given
       (flag-follows c.listed sense pattern e u p.0 x r.0.0 r.1)
       (λ m f i. finish-sound c e m f i))
   after_addresses ed.Undo f g =
-      Agrees-bind (Follows c.listed e) Final (undone t) (making (effects.undo p.0.past p.0)) _ _ (undo-follows c.listed e t p.0 (h.numbers, h.stands))
+      Agrees-bind (Follows c.listed e) Final (undone t) (making (effects.undo p.0.past p.0)) _ _ (undo-follows c.listed e t p.0 (h.numbers, h.stands, h.followed))
       (λ m f i. finish-sound c e m f i)
   after_addresses ed.Help f g = finish-sound c e t (Makes (effects.only p.0 [])) (h.numbers, h.stands)
   after_addresses ed.HelpMode f g = finish-sound c e t (Makes (effects.only p.0 [])) (h.numbers, h.stands)

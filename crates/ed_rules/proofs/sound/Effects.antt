@@ -278,7 +278,7 @@ copy-follows listed s start st t e x target r v5 inside =
     }))
 
 -- `k`
-mark-line : (letter : ℕ) (x : Span) (e : editor.State) (v : Numbers) (sure : List Bool) → letter < 26 → 1 ≤ x.last → x.last ≤ length e.lines → KnowLetters e.lines → Reads sure e.lines e.current v →
+pub mark-line : (letter : ℕ) (x : Span) (e : editor.State) (v : Numbers) (sure : List Bool) → letter < 26 → 1 ≤ x.last → x.last ≤ length e.lines → KnowLetters e.lines → Reads sure e.lines e.current v →
     (y : ℕ) → y < 26 → get_or (set sure letter true) y false ≡ true → OnLine y (marked_at (x.last - 1) letter e.lines) (updated v (6 + letter) (pos x.last))
 mark-line letter x e v sure h from inside known r y hy q = elim (cases_eq y letter) [
   | inl s ↦ subst (λ (z : ℕ). OnLine z (marked_at (x.last - 1) letter e.lines) (updated v (6 + letter) (pos x.last))) (sym s)
@@ -288,7 +288,7 @@ mark-line letter x e v sure h from inside known r y hy q = elim (cases_eq y lett
       (o.0, line_with-marked_other letter y e.lines (x.last - 1) n ∙ o.1, updated-other v (6 + letter) (pos x.last) (6 + y) (omega arith) ∙ o.2)
 ]
 
-pub mark-follows : (listed : Bool) (letter : ℕ) (start : editor.State) (t : State) (e : editor.State) (x : Span) (r : Ranges t e x) → x.first ≡ x.last → letter < 26 → KnowLetters e.lines →
+unfoldable pub mark-follows : (listed : Bool) (letter : ℕ) (start : editor.State) (t : State) (e : editor.State) (x : Span) (r : Ranges t e x) → x.first ≡ x.last → letter < 26 → KnowLetters e.lines →
     Follows listed start (marked letter t) (Makes (effects.mark letter x e))
 mark-follows listed letter start t e x r same h known =
     let v : Numbers = r.spans.numbers in
@@ -340,6 +340,10 @@ pub move-down-is : (x : Span) (target : ℕ) (e : editor.State) → x.first ≤ 
     (target - (x.last + 1 - x.first) + length (parts.between x.first x.last e.lines)) e)
 move-down-is x target e k h =
     ap (λ (p : Bool). moved-by p (nat_le target x.last) x target e) (le-leb x.first target (omega arith)) ∙ ap (λ (q : Bool). moved-by true q x target e) (lt-leb target x.last h)
+
+pub move-within-is : (x : Span) (target : ℕ) (e : editor.State) → x.first ≤ target → target ≤ x.last → effects.move x target e ≡ Err fault.Destination
+move-within-is x target e h k =
+    ap (λ (p : Bool). moved-by p (nat_le target x.last) x target e) (le-leb x.first target h) ∙ ap (λ (q : Bool). moved-by true q x target e) (le-leb target x.last k)
 
 -- the buffer after a move, by the marks
 HoldsBy-moved : (marks : List Bool) (lines : List Line) (v u : Numbers) (current : ℕ) (zone : Bounds) → Pushed marks lines u 26 zone → u 0 ≡ pos 0 → u 1 ≡ pos current → u 2 ≡ pos (length lines) → current ≤ length lines →

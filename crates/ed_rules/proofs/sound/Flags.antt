@@ -35,7 +35,7 @@ position-unflagged x i (l ∷ ls) = ap (cond (has_letter x l) (Some i)) (positio
 place-unflagged : (x : ℕ) (ls : List Line) → marked_place x (unflagged ls) ≡ marked_place x ls
 place-unflagged x ls = position_from-zero (has_letter x) (unflagged ls) ∙ position-unflagged x 0 ls ∙ sym (position_from-zero (has_letter x) ls)
 
-texts-unflagged : (ls : List Line) → texts (unflagged ls) ≡ texts ls
+pub texts-unflagged : (ls : List Line) → texts (unflagged ls) ≡ texts ls
 texts-unflagged [] = refl
 texts-unflagged (l ∷ ls) = ap (λ (ts : List (List ℕ)). l.bytes ∷ ts) (texts-unflagged ls)
 

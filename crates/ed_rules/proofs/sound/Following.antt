@@ -1,17 +1,17 @@
 -- What a run that follows single lines says of them stays true while addresses are evaluated.
-use Rattle.std.proofs.Common.{◌≡◌, ◌<◌, ◌≤◌, ◌==◌, inl, inr, ℕ, zero, suc, ℤ, pos, negsuc, ◌+ℤ◌, Bool, true, false, ◌&&◌, ◌||◌, List, [], ◌∷◌, length, Option, None, Some, Result, Ok, arith, refl, ◌∙◌, sym, ap, subst}
+use Rattle.std.proofs.Common.{◌≡◌, ◌<◌, ◌≤◌, ◌==◌, inl, inr, ℕ, zero, suc, ℤ, pos, negsuc, ◌+ℤ◌, Bool, true, false, ◌&&◌, ◌||◌, List, [], ◌∷◌, length, max, Option, None, Some, Result, Ok, arith, refl, ◌∙◌, sym, ap, subst}
 use Rattle.std.specs.Ordering.{is_eq}
 use Rattle.std.proofs.lemmas.Int.{ints}
-use Rattle.std.proofs.lemmas.Bool.{or_cases}
+use Rattle.std.proofs.lemmas.Bool.{or_cases, cases_eq}
 use Rattle.std.proofs.lemmas.Bool.Decides.{eqb_tells}
-use Rattle.std.proofs.lemmas.List.Elements.{All-filter}
+use Rattle.std.proofs.lemmas.List.Elements.{All-filter, All-weaker}
 use Rattle.ed_base.specs.declared.fault.Fault.{Fault}
 use Rattle.ed_base.specs.Buffer.{Line}
 use Rattle.zones.specs.Zone.{Bounds, Numbers, Holds, updated}
-use Rattle.zones.proofs.Known.{updated-same}
+use Rattle.zones.proofs.Known.{updated-same, updated-other}
 use Rattle.ed_syntax.specs.meaning.States as editor
 use Rattle.ed_syntax.specs.meaning.Values as concrete
-use Rattle.ed_syntax.specs.meaning.Values.{lines_forward, lines_backward}
+use Rattle.ed_syntax.specs.meaning.Values.{matches_line, lines_forward, lines_backward}
 use Rattle.ed_rules.specs.declared.following.Way.{Way}
 use Rattle.ed_rules.specs.declared.following.Way.TheVariants.{Forward, Backward}
 use Rattle.ed_rules.specs.declared.state.State.{State}
@@ -20,18 +20,25 @@ use Rattle.ed_rules.specs.Matched.{is_matched}
 use Rattle.ed_rules.specs.StandsFor.{StandsBy}
 use Rattle.ed_rules.specs.Following.{patterns_of, facts_without, facts_set, set_to, may_name, spoken_facts, only_pattern, found_by}
 use Rattle.ed_rules.specs.Addresses.{found, known_found}
-use Rattle.ed_rules.specs.facts.Facts.{LineFact, Stretch, Facts, FactsHold, LineFactHolds, StretchHolds, ReadsEnds, end}
+use Rattle.ed_rules.specs.facts.Facts.{LineFact, Stretch, Facts, FactsHold, LineFactHolds, StretchHolds, ReadsEnds, value_of, point, end}
 use Rattle.ed_rules.specs.facts.FoundLines.{Known, known_as, without}
 use Rattle.ed_rules.specs.facts.FoundHolds.{KnownHolds, ReadsPlaces, Finds}
 use Rattle.ed_rules.specs.facts.AssignedFacts.{assigned, moved}
 use Rattle.ed_rules.proofs.Choosing.{same-choices}
-use Rattle.ed_rules.proofs.facts.AssignedFacts.{assigned-holds, moved-holds}
-use Rattle.ed_rules.proofs.facts.FoundLines.{FactsHold-without, forward-search, backward-search}
+use Rattle.ed_rules.proofs.facts.AssignedFacts.{value-up, assigned-holds, moved-holds}
+use Rattle.ed_rules.proofs.facts.FoundLines.{told-same, clear-within, value-at, value-other, FactsHold-without, forward-search, backward-search}
 use Rattle.ed_rules.proofs.sound.Searching.{forward-finds, backward-finds, Holds-found}
 
 -- where single lines are followed, what is said of them is true
 abbrev pub FollowedHold : State → Numbers → List Line → Type 0
 FollowedHold s v lines = s.follows ≡ true → FactsHold s.facts v lines
+
+-- a state stands for an editor's and, where single lines are followed, what it says of them is true by the same numbers
+abbrev pub KnownBy : (follows : Bool) → State → editor.State → Type 0
+KnownBy follows s e = (v : Numbers) × StandsBy s e v × (follows ≡ true → FactsHold s.facts v e.lines)
+
+abbrev pub KnownAt : State → editor.State → Type 0
+KnownAt s e = KnownBy s.follows s e
 
 -- NUMBERS
 
@@ -71,7 +78,7 @@ moved-from x c n k v lines hx ne h =
     updated-twice v x n (w x +ℤ c) ∙ ap (λ (m : ℤ). updated v x (m +ℤ c)) (updated-same v x n) in
     subst (λ (u : Numbers). KnownHolds (moved x c k) u lines) same (moved-known x c k w lines hx ne h)
 
-facts-set : (b : Bool) (x y : ℕ) (c n : ℤ) (zone : Bounds) (facts : Facts) (v : Numbers) (lines : List Line) → x < 32 → y < 32 →
+pub facts-set : (b : Bool) (x y : ℕ) (c n : ℤ) (zone : Bounds) (facts : Facts) (v : Numbers) (lines : List Line) → x < 32 → y < 32 →
     (2 ≡ x → ⊥) → n ≡ v y +ℤ c → Holds zone v → ReadsEnds v lines → (b ≡ true → FactsHold facts v lines) → b ≡ true →
     FactsHold (facts_set b x y c zone facts) (updated v x n) lines
 facts-set false x y c n zone facts v lines hx hy ne is holds r h e = absurd cc
@@ -86,6 +93,49 @@ pub facts-without : (b : Bool) (x : ℕ) (n : ℤ) (facts : Facts) (v : Numbers)
 facts-without false x n facts v lines ne h e = absurd cc
 facts-without true x n facts v lines ne h e = FactsHold-without x n facts v lines ne (h refl)
 
+-- 0 stands for 1: of no line more is said than before
+lifted-number : (v : Numbers) (x n : ℕ) → v x ≡ pos n → 1 ≤ n → updated v x (pos (max 1 n)) ≡ v
+lifted-number v x n is from =
+    let same : max 1 n ≡ n = omega arith in
+    let e : v x +ℤ pos 0 ≡ pos (max 1 n) = omega (arith, ints) in
+    subst (λ (m : ℤ). updated v x m ≡ v) e (unmoved v x)
+
+lifted-none : (x : ℕ) (facts : Facts) (v : Numbers) (lines : List Line) → x < 32 → (2 ≡ x → ⊥) → v x ≡ pos 0 → FactsHold facts v lines →
+    FactsHold facts (updated v x (pos 1)) lines
+lifted-none x facts v lines hx ne is h = record {
+  of_lines = All-weaker (LineFactHolds v lines) (LineFactHolds (updated v x (pos 1)) lines) (λ (f : LineFact) (q : LineFactHolds v lines f). elim (cases_eq f.name x) [
+    | inl e ↦
+        let from = q.holds.from in
+        let line : v x ≡ pos q.holds.line = ap v (sym e) ∙ q.holds.is in
+        absurd (omega (arith, ints))
+    | inr d ↦ record {
+      named = q.named;
+      holds = told-same (length lines) (matches_line f.pattern lines) (v f.name) (updated v x (pos 1) f.name) f.matches (updated-other v x (pos 1) f.name d) q.holds;
+    }
+  ]) facts.lines h.of_lines;
+  of_clear = All-weaker (StretchHolds v lines) (StretchHolds (updated v x (pos 1)) lines) (λ (s : Stretch) (q : StretchHolds v lines s). record {
+    after_named = q.after_named;
+    before_named = q.before_named;
+    holds =
+        let low = value-up x s.after (pos 1) v hx ne q.after_named (omega (arith, ints)) in
+        (elim (cases_eq s.before x) [
+          | inl e ↦ λ n from inside above under.
+              let high : value_of (updated v x (pos 1)) (point s.before) ≡ pos 1 =
+              ap (λ (y : ℕ). value_of (updated v x (pos 1)) (point y)) e ∙ value-at (updated v x (pos 1)) x hx ∙ updated-same v x (pos 1) in
+              absurd (omega (arith, ints))
+          | inr d ↦
+              let high = value-other x s.before (pos 1) v ne q.before_named d in
+              clear-within (length lines) (matches_line s.pattern lines) _ _ _ _ low (omega (arith, ints)) q.holds
+        ]);
+  }) facts.clear h.of_clear;
+}
+
+pub FactsHold-lifted : (x n : ℕ) (facts : Facts) (v : Numbers) (lines : List Line) → x < 32 → (2 ≡ x → ⊥) → v x ≡ pos n → FactsHold facts v lines →
+    FactsHold facts (updated v x (pos (max 1 n))) lines
+FactsHold-lifted x zero facts v lines hx ne is h = lifted-none x facts v lines hx ne is h
+FactsHold-lifted x (suc n) facts v lines hx ne is h =
+    subst (λ (w : Numbers). FactsHold facts w lines) (sym (lifted-number v x (suc n) is (omega arith))) h
+
 pub followed-set : (s : State) (e : editor.State) (v : Numbers) (x y : ℕ) (c n : ℤ) → x < 32 → y < 32 → (2 ≡ x → ⊥) → n ≡ v y +ℤ c →
     StandsBy s e v → FollowedHold s v e.lines → FollowedHold (set_to x y c s) (updated v x n) e.lines
 followed-set s e v x y c n hx hy ne is st h =
@@ -98,7 +148,7 @@ StandsBy-facts s e v facts st = record { buffer = st.buffer; remembered = st.rem
 
 -- SEARCHES
 
-spoken-holds : (marks : List Bool) (facts : Facts) (v : Numbers) (lines : List Line) → FactsHold facts v lines →
+pub spoken-holds : (marks : List Bool) (facts : Facts) (v : Numbers) (lines : List Line) → FactsHold facts v lines →
     FactsHold (spoken_facts marks facts) v lines
 spoken-holds marks facts v lines h = record {
   of_lines = All-filter (λ (f : LineFact). may_name marks f.name) (LineFactHolds v lines) facts.lines h.of_lines;

@@ -1,5 +1,5 @@
 -- What `g` and `v` do before their list, and what `u` does, side by side.
-use Rattle.std.proofs.Common.{◌≡◌, ◌≤◌, ℕ, ◌+◌, Bool, true, false, List, [], Option, Some, None, Ok, refl}
+use Rattle.std.proofs.Common.{◌≡◌, ◌≤◌, ℕ, ◌+◌, Bool, true, false, cond, List, [], Option, Some, None, Ok, refl, sym}
 use Rattle.std.specs.Prelude.{not, map}
 use Rattle.ed_base.specs.declared.fault.Fault.TheVariants as fault
 use Rattle.ed_base.specs.Buffer.{Line}
@@ -10,7 +10,7 @@ use Rattle.ed_syntax.specs.meaning.States.{Past, Nothing, Same, Was, Kept, kept,
 use Rattle.ed_syntax.specs.meaning.Ranges.{Span}
 use Rattle.ed_syntax.specs.meaning.Values.{◌>>◌, used_pattern}
 use Rattle.ed_syntax.specs.meaning.Effects as effects
-use Rattle.ed_syntax.specs.meaning.Effects.{Outcome, Effect, Makes, only}
+use Rattle.ed_syntax.specs.meaning.Effects.{Outcome, Effect, Makes, Asks, only}
 use Rattle.ed_syntax.specs.meaning.Globals.{flagged_line, flagged}
 use Rattle.ed_syntax.specs.meaning.Applied.{making}
 use Rattle.ed_rules.specs.declared.state.Old.{Old}
@@ -19,12 +19,19 @@ use Rattle.ed_rules.specs.Choices.{Choice}
 use Rattle.ed_rules.specs.StandsFor.{AllowsKept, AllowsPast}
 use Rattle.ed_rules.specs.Addresses.{possible_patterns}
 use Rattle.ed_rules.specs.Substituting.{pattern_used}
+use Rattle.ed_rules.specs.Order.{join}
 use Rattle.ed_rules.specs.Undoing.{present_of, brought_back, undone_by, undone}
-use Rattle.ed_rules.proofs.Basics.{Agrees, Agrees-bind, Agrees-map, Agrees-needing}
+use Rattle.ed_rules.specs.FactsAfter.{facts_ended}
+use Rattle.ed_rules.specs.facts.Facts.{FactsHold, no_facts}
+use Rattle.ed_rules.proofs.Basics.{Agrees, Agrees-bind, Agrees-map, Agrees-needing, Agrees-weaker}
 use Rattle.ed_rules.proofs.sound.Standing.{Stands, nothing-holds}
 use Rattle.ed_rules.proofs.sound.Finishing.{Follows, Holds-without_addresses}
-use Rattle.ed_rules.proofs.sound.Weaker.{Stands-join, Stands-join_other}
-use Rattle.ed_rules.proofs.sound.Flags.{HoldsBy-alike, kept-buffer, alike-taken}
+use Rattle.ed_rules.proofs.sound.Following.{KnownBy, KnownAt}
+use Rattle.ed_rules.proofs.sound.Weaker.{Known-covers}
+use Rattle.ed_rules.proofs.CoveringStates.{Covers-join, Covers-join_other}
+use Rattle.ed_rules.proofs.facts.FactsByBytes.{FactsHold-bytes}
+use Rattle.ed_rules.proofs.facts.FactsEnded.{ended-agreed}
+use Rattle.ed_rules.proofs.sound.Flags.{HoldsBy-alike, texts-unflagged, kept-buffer, alike-taken}
 use Rattle.ed_rules.proofs.sound.SubstitutionEffects.{IsPossible, patterns-sound, not-true}
 
 -- `g` and `v`
@@ -57,16 +64,21 @@ abbrev back : Kept → editor.State → editor.State
 back before e = record e { lines = before.lines; current = before.current; changed = true; past = Was (kept e) }
 
 -- of a buffer whose addresses are forgotten no less is allowed
-present-allowed : (u : State) (e : editor.State) → Stands u e → AllowsKept (Some (present_of u)) (kept e)
+present-allowed : (u : State) (e : editor.State) → KnownAt u e → AllowsKept (Some (present_of u)) (kept e)
 present-allowed u e st =
-    let k = kept-buffer u e st.0 st.1 in (
+    let k = kept-buffer u e st.0 st.1 in
+    let lines : List Line = unflagged e.lines in (
       st.0,
       record { holds = Holds-without_addresses u.zone st.0 k.holds; reads = k.reads; inside = k.inside },
-      nothing-holds st.0 (unflagged e.lines),
+      (elim u.follows as (λ b. (b ≡ true → FactsHold u.facts st.0 e.lines) → FactsHold (cond b (facts_ended u.marks u.facts) no_facts) st.0 lines) [
+        | true ↦ λ f.
+            ended-agreed u.marks lines e.current st.0 st.0 k.reads k.reads u.facts (FactsHold-bytes u.facts st.0 e.lines lines (sym (texts-unflagged e.lines)) (f refl))
+        | false ↦ λ f. nothing-holds st.0 lines
+      ]) st.2,
     )
 
-back-stands : (old : Old) (u : State) (e : editor.State) (before : Kept) → AllowsKept (Some old) before → Stands u e → Stands (brought_back old u) (back before e)
-back-stands old u e before h st = (
+back-known : (old : Old) (u : State) (e : editor.State) (before : Kept) → AllowsKept (Some old) before → KnownAt u e → KnownBy u.follows (brought_back old u) (back before e)
+back-known old u e before h st = (
   h.0,
   record {
     buffer = h.1;
@@ -74,24 +86,43 @@ back-stands old u e before h st = (
     changed = refl;
     past = present-allowed u e st;
   },
+  λ f. h.2,
 )
 
-same-stands : (same : Bool) (was : Option Old) (u : State) (e : editor.State) → same ≡ true → Stands u e → Stands (undone_by same was u) e
-same-stands same None u e h st = st
-same-stands true (Some old) u e h st = Stands-join u (brought_back old u) e st
-same-stands false (Some old) u e h st = absurd cc
+same-known : (same : Bool) (was : Option Old) (u : State) (e : editor.State) → same ≡ true → KnownAt u e → KnownBy u.follows (undone_by same was u) e
+same-known same None u e h st = st
+same-known true (Some old) u e h st = Known-covers u.follows (join u (brought_back old u)) u e (Covers-join u (brought_back old u)) st
+same-known false (Some old) u e h st = absurd cc
 
-was-stands : (same : Bool) (was : Option Old) (u : State) (e : editor.State) (before : Kept) → AllowsKept was before → Stands u e → Stands (undone_by same was u) (back before e)
-was-stands same None u e before h st = absurd h
-was-stands true (Some old) u e before h st = Stands-join_other u (brought_back old u) (back before e) (back-stands old u e before h st)
-was-stands false (Some old) u e before h st = back-stands old u e before h st
+was-known : (same : Bool) (was : Option Old) (u : State) (e : editor.State) (before : Kept) → AllowsKept was before → KnownAt u e →
+    KnownBy u.follows (undone_by same was u) (back before e)
+was-known same None u e before h st = absurd h
+was-known true (Some old) u e before h st =
+    Known-covers u.follows (join u (brought_back old u)) (brought_back old u) (back before e) (Covers-join_other u (brought_back old u)) (back-known old u e before h st)
+was-known false (Some old) u e before h st = back-known old u e before h st
 
-undo-by : (listed : Bool) (start : editor.State) (u : State) (e : editor.State) (past : Past) → AllowsPast u.undo past → Stands u e → not u.undo.nothing ≡ true →
-    Agrees (Follows listed start) (Ok (undone_by u.undo.same u.undo.was u)) (making (effects.undo past e))
+-- what `u` leaves, with what was known of single lines
+abbrev pub IsUndone : (listed : Bool) → editor.State → (follows : Bool) → State → Effect → Type 0
+IsUndone listed start follows r (Makes o) = Follows listed start r (Makes o) × KnownBy follows r o.state
+IsUndone listed start follows r (Asks f) = ⊥
+
+undo-by : (listed : Bool) (start : editor.State) (u : State) (e : editor.State) (past : Past) → AllowsPast u.undo past → KnownAt u e → not u.undo.nothing ≡ true →
+    Agrees (IsUndone listed start u.follows) (Ok (undone_by u.undo.same u.undo.was u)) (making (effects.undo past e))
 undo-by listed start u e Nothing h st k = not-true u.undo.nothing k h
-undo-by listed start u e Same h st k = same-stands u.undo.same u.undo.was u e h st
-undo-by listed start u e (Was before) h st k = was-stands u.undo.same u.undo.was u e before h st
+undo-by listed start u e Same h st k = let q = same-known u.undo.same u.undo.was u e h st in ((q.0, q.1), q)
+undo-by listed start u e (Was before) h st k = let q = was-known u.undo.same u.undo.was u e before h st in ((q.0, q.1), q)
 
-pub undo-follows : (listed : Bool) (start : editor.State) (u : State) (e : editor.State) → Stands u e → Agrees (Follows listed start) (undone u) (making (effects.undo e.past e))
+pub undo-known : (listed : Bool) (start : editor.State) (u : State) (e : editor.State) → KnownAt u e →
+    Agrees (IsUndone listed start u.follows) (undone u) (making (effects.undo e.past e))
+undo-known listed start u e st =
+    Agrees-needing (IsUndone listed start u.follows) (not u.undo.nothing) fault.Undo (undone_by u.undo.same u.undo.was u) (making (effects.undo e.past e))
+    (undo-by listed start u e e.past st.1.past st)
+
+undone-follows : (listed : Bool) (start : editor.State) (follows : Bool) (r : State) (f : Effect) → IsUndone listed start follows r f → Follows listed start r f
+undone-follows listed start follows r (Makes o) h = h.0
+undone-follows listed start follows r (Asks q) h = absurd h
+
+pub undo-follows : (listed : Bool) (start : editor.State) (u : State) (e : editor.State) → KnownAt u e → Agrees (Follows listed start) (undone u) (making (effects.undo e.past e))
 undo-follows listed start u e st =
-    Agrees-needing (Follows listed start) (not u.undo.nothing) fault.Undo (undone_by u.undo.same u.undo.was u) (making (effects.undo e.past e)) (undo-by listed start u e e.past st.1.past st)
+    Agrees-weaker (IsUndone listed start u.follows) (Follows listed start) (undone u) (making (effects.undo e.past e)) (undone-follows listed start u.follows)
+    (undo-known listed start u e st)

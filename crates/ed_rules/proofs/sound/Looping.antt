@@ -34,6 +34,7 @@ use Rattle.ed_rules.proofs.Texting.{with_text-passes}
 use Rattle.ed_rules.proofs.matches.MatchedLeft.{are-matched-alike, are-matched-kept}
 use Rattle.ed_rules.specs.GlobalSoundness.{FlaggedPass, is_taken_by, StartIsSound, TurnIsSound, EndIsSound}
 use Rattle.ed_rules.proofs.sound.Standing.{Reads-current, StandsBy-matching, nothing-holds}
+use Rattle.ed_rules.specs.facts.Facts.{no_facts}
 use Rattle.ed_rules.proofs.sound.Finishing.{StandsBy-ended}
 use Rattle.ed_rules.proofs.sound.Flags.{HoldsBy-alike, kept-allowed, lettered-kept, lettered-alike, same-length, alike-flagged_at}
 
@@ -103,7 +104,7 @@ taken-stands k verb s e place h flag pass st =
     let v : Numbers = updated st.numbers 1 (pos (place + 1)) in
     record {
       numbers = v;
-      stands = StandsBy-matching (finished (with_zone (line_taken s.zone) s)) (taken_at e place) v (record s.matches { has = taken_matches verb s.matches.has })
+      stands = StandsBy-matching (finished (with_zone (line_taken s.zone) s)) (taken_at e place) v (record s.matches { has = taken_matches verb s.matches.has }) no_facts
           (StandsBy-ended (with_zone (line_taken s.zone) s) (taken_at e place) v (StandsBy-taken s e st.numbers place h st.stands));
       lines = lettered-alike k.marks k.bytes e.lines (flagged_at place false e.lines) (alike-flagged_at place false e.lines) st.lines;
       kept = st.kept;

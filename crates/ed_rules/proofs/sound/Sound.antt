@@ -1,5 +1,5 @@
 -- Soundness of one command.
-use Rattle.std.proofs.Common.{◌≡◌, ℕ, Bool, true, false, List, Option, None, Some, Result, Ok, Err, IfOk, IfErr, refl, sym, subst}
+use Rattle.std.proofs.Common.{◌≡◌, ℕ, Bool, true, false, List, Option, None, Some, Result, Ok, Err, IfErr, refl, sym, subst}
 use Rattle.ed_base.specs.Buffer.{Line}
 use Rattle.zones.specs.Zone.{Numbers}
 use Rattle.ed_base.specs.declared.fault.Fault.{Fault}
@@ -21,12 +21,13 @@ use Rattle.ed_rules.specs.Rules.{step_at, step, fault_of}
 use Rattle.ed_rules.specs.Soundness.{IsUnserved, IsDone, CommandIsSound}
 use Rattle.ed_rules.specs.Matching.{saying}
 use Rattle.ed_rules.specs.StandsFor.{StandsFor}
-use Rattle.ed_rules.specs.facts.Facts.{Facts, FactsHold, no_facts}
+use Rattle.ed_rules.specs.facts.Facts.{Facts}
 use Rattle.ed_rules.proofs.sound.Answering.{Does, Comes}
-use Rattle.ed_rules.proofs.sound.Standing.{Stands-matching, nothing-holds}
+use Rattle.ed_rules.proofs.sound.Standing.{Stands-matching}
 use Rattle.ed_rules.proofs.matches.MatchedPhases.{Tells, Holds, step-told}
-use Rattle.ed_rules.proofs.matches.Aside.{step_aside, Beside, step_at-beside, step-nothing}
+use Rattle.ed_rules.proofs.matches.Aside.{step_aside, Beside, step_at-beside}
 use Rattle.ed_rules.proofs.sound.Commanding.{phases_sound}
+use Rattle.ed_rules.proofs.sound.FactsPhases.{FactsRead, step-facts}
 use Rattle.ed_rules.proofs.sound.Lettered.{LeavesLettered, command-lettered}
 use Rattle.ed_rules.proofs.sound.Asking as asking
 use Rattle.ed_rules.proofs.sound.Asking.{may-ask, is-unserved}
@@ -42,15 +43,15 @@ pub record Laws : Type 0 where
 abbrev Entered : Command → Type 0
 Entered c = enters_lines c.verb ≡ true
 
--- what is known of matches makes no difference to what a command does
-matching-does : (given : Option Answer) (t : State) (m : Matches) (y : Result Effect Fault) → Does Comes given (Ok t) y →
-    Does Comes given (Ok (saying m t)) y
-matching-does given t m (Ok (Makes o)) h = Stands-matching t o.state m h
-matching-does given t m (Ok (Asks r)) h = tt
-matching-does given t m (Err f) h = h
+-- what is known of matches and of single lines makes no difference to what a command does
+matching-does : (given : Option Answer) (t : State) (m : Matches) (facts : Facts) (y : Result Effect Fault) → Does Comes given (Ok t) y →
+    Does Comes given (Ok (saying m facts t)) y
+matching-does given t m facts (Ok (Makes o)) h = Stands-matching t o.state m facts h
+matching-does given t m facts (Ok (Asks r)) h = tt
+matching-does given t m facts (Err f) h = h
 
 does-beside : (given : Option Answer) (x y : Result State Fault) (z : Result Effect Fault) → Beside x y → Does Comes given x z → Does Comes given y z
-does-beside given (Ok t) (Ok u) z b h = subst (λ (v : State). Does Comes given (Ok v) z) (sym b.1) (matching-does given t b.0 z h)
+does-beside given (Ok t) (Ok u) z b h = subst (λ (v : State). Does Comes given (Ok v) z) (sym b.2) (matching-does given t b.0 b.1 z h)
 does-beside given (Ok t) (Err g) z b h = absurd b
 does-beside given (Err f) (Ok u) z b h = absurd b
 does-beside given (Err f) (Err g) z b h = tt
@@ -86,24 +87,19 @@ module _ (k : Laws) (watched : List (List ℕ)) (c : Command) (s t : State) (e :
   fails-well None f h same = h
   fails-well (Some a) f h same = is-unserved k.answers c e a f (λ g. never-fails t (command e c None) g (does None)) h same
 
-  nothing-said : (v : Numbers) (lines : List Line) → FactsHold t.facts v lines
-  nothing-said v lines =
-      let none : t.facts ≡ no_facts = subst (λ (x : Result State Fault). IfOk x (λ (u : State). u.facts ≡ no_facts)) is (step-nothing watched c s) in
-      subst (λ (facts : Facts). FactsHold facts v lines) (sym none) (nothing-holds v lines)
-
   done-by : (given : Option Answer) (y : Result Effect Fault) → command e c given ≡ y → Does Comes given (Ok t) y →
-      ((o : Outcome) → y ≡ Ok (Makes o) → LeavesLettered o) → Tells Holds (Ok t) y → IsDone c s t e given y
-  done-by given (Err f) same h l m = fails-well given f h same
-  done-by given (Ok (Asks r)) same h l m = may-ask k.answers c s e given r st.stands.remembered.2 same
-  done-by given (Ok (Makes o)) same h l m =
+      ((o : Outcome) → y ≡ Ok (Makes o) → LeavesLettered o) → Tells Holds (Ok t) y → Tells FactsRead (Ok t) y → IsDone c s t e given y
+  done-by given (Err f) same h l m read = fails-well given f h same
+  done-by given (Ok (Asks r)) same h l m read = may-ask k.answers c s e given r st.stands.remembered.2 same
+  done-by given (Ok (Makes o)) same h l m read =
       let left = l o refl in
-      record { numbers = h.0; stands = h.1; lines = left.0; kept = left.1; matches = m; facts = nothing-said h.0 o.state.lines }
+      record { numbers = h.0; stands = h.1; lines = left.0; kept = left.1; matches = m; facts = read h.0 h.1.buffer.reads }
 
 pub command_sound : Laws → CommandIsSound
 command_sound k watched c s t e given st is =
     done-by k watched c s t e st is given (command e c given) refl (does k watched c s t e st is given)
     (λ o makes. command-lettered k.marks k.lines c e given o makes (entered watched c s t is) st.lines st.kept)
-    (step-told watched c s t e given st is)
+    (step-told watched c s t e given st is) (step-facts watched c s t e given st is)
 
 -- where the needs hold, the command meets no fault but that of a file
 fault-unserved : (c : Command) (s t : State) (e : editor.State) (given : Option Answer) (y : Result Effect Fault) → IsDone c s t e given y → IfErr y (IsUnserved c e given)

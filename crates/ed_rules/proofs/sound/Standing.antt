@@ -12,7 +12,7 @@ use Rattle.ed_rules.specs.Choices.{Choice, has_choice}
 use Rattle.ed_rules.specs.Matching.{saying}
 use Rattle.ed_rules.specs.StandsFor.{Reads, StandsBy}
 use Rattle.ed_rules.specs.Pieces.{with_zone}
-use Rattle.ed_rules.specs.facts.Facts.{FactsHold, LineFactHolds, StretchHolds, no_facts}
+use Rattle.ed_rules.specs.facts.Facts.{Facts, FactsHold, LineFactHolds, StretchHolds, no_facts}
 use Rattle.zones.proofs.Known.{updated-same, updated-other}
 
 -- for some numbers
@@ -95,9 +95,9 @@ StandsBy-guarded s e v x y c hx hy h st = record {
   past = st.past;
 }
 
--- what is known of matches is said beside
-pub StandsBy-matching : (s : State) (e : editor.State) (v : Numbers) (m : Matches) → StandsBy s e v → StandsBy (saying m s) e v
-StandsBy-matching s e v m st = record { buffer = st.buffer; remembered = st.remembered; changed = st.changed; past = st.past }
+-- what is known of matches and of single lines is said beside
+pub StandsBy-matching : (s : State) (e : editor.State) (v : Numbers) (m : Matches) (facts : Facts) → StandsBy s e v → StandsBy (saying m facts s) e v
+StandsBy-matching s e v m facts st = record { buffer = st.buffer; remembered = st.remembered; changed = st.changed; past = st.past }
 
-pub Stands-matching : (s : State) (e : editor.State) (m : Matches) → Stands s e → Stands (saying m s) e
-Stands-matching s e m st = (st.0, StandsBy-matching s e st.0 m st.1)
+pub Stands-matching : (s : State) (e : editor.State) (m : Matches) (facts : Facts) → Stands s e → Stands (saying m facts s) e
+Stands-matching s e m facts st = (st.0, StandsBy-matching s e st.0 m facts st.1)

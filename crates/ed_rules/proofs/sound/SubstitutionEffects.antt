@@ -86,7 +86,7 @@ not-true false h k = absurd cc
 allows-split : (kinds : Replacements) (parts : List Part) → allows_replacement kinds (Some parts) ≡ true → list_any ends_line parts ≡ true → kinds.split ≡ true
 allows-split kinds parts h e = (let P : Bool → Type 0 = λ (b : Bool). cond b kinds.split kinds.plain ≡ true in subst P e) h
 
-allows-plain : (kinds : Replacements) (parts : List Part) → allows_replacement kinds (Some parts) ≡ true → kinds.split ≡ false → list_any ends_line parts ≡ false
+pub allows-plain : (kinds : Replacements) (parts : List Part) → allows_replacement kinds (Some parts) ≡ true → kinds.split ≡ false → list_any ends_line parts ≡ false
 allows-plain kinds parts h e =
     (elim (list_any ends_line parts) as (λ b. list_any ends_line parts ≡ b → b ≡ false) [
       | true ↦ λ k. let q = allows-split kinds parts h k in let z : true ≡ false = sym q ∙ e in absurd cc
@@ -227,7 +227,7 @@ one-from [] k d h = absurd (omega arith)
 one-from (l ∷ ls) zero d h = refl
 one-from (l ∷ ls) (suc k) d h = one-from ls k d (omega arith)
 
-one-between : (ls : List Line) (a b : ℕ) → 1 ≤ a → b ≡ a → a ≤ length ls → parts.between a b ls ≡ slice_index_or ls (a - 1) (plain_line []) ∷ []
+pub one-between : (ls : List Line) (a b : ℕ) → 1 ≤ a → b ≡ a → a ≤ length ls → parts.between a b ls ≡ slice_index_or ls (a - 1) (plain_line []) ∷ []
 one-between ls zero b from same inside = absurd (omega arith)
 one-between ls (suc k) b from same inside =
     let q : suc k - 1 ≡ k = omega arith in

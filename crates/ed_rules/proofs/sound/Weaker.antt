@@ -23,6 +23,7 @@ use Rattle.ed_rules.proofs.Choosing.{has-are_choices}
 use Rattle.ed_rules.proofs.Texting.{members-pass}
 use Rattle.ed_rules.proofs.CoveringStates.{old-both, old-both_other, Covers-join, Covers-join_other, Covers-widen, Covers-widen_other}
 use Rattle.ed_rules.proofs.sound.Standing.{Stands}
+use Rattle.ed_rules.proofs.sound.Following.{KnownBy}
 
 -- fewer sure letters, and a weaker zone that holds
 pub HoldsBy-fewer : (zone weak : Bounds) (many few : List Bool) (lines : List Line) (current : ℕ) (v : Numbers) →
@@ -111,6 +112,13 @@ Stands-covers weak strong e c st = (
     past = past-covers weak strong e.past c st.1.past;
   },
 )
+
+-- and so what is said of single lines, where they are followed
+pub Known-covers : (follows : Bool) (weak strong : State) (e : editor.State) → Covers weak strong → KnownBy follows strong e → KnownBy follows weak e
+unfolding Stands-covers
+Known-covers follows weak strong e c st =
+    let q = Stands-covers weak strong e c (st.0, st.1) in
+    (q.0, q.1, λ f. facts-covered weak.facts strong.zone strong.marks strong.facts e.lines e.current st.0 c.facts st.1.buffer (st.2 f))
 
 pub StandsFor-covers : (weak strong : State) (e : editor.State) → Covers weak strong → StandsFor strong e → StandsFor weak e
 unfolding Stands-covers

@@ -12,6 +12,7 @@ use Rattle.ed_rules.specs.Matched.{sought_by, sought_at_target, sought}
 use Rattle.ed_rules.specs.Pieces.{with_zone, ended}
 use Rattle.ed_rules.specs.Addresses.{addressed, standing, targeted}
 use Rattle.ed_rules.specs.Matching.{saying, matches_after}
+use Rattle.ed_rules.specs.FactsAfter.{facts_after}
 use Rattle.ed_rules.specs.Rules.{taken, effect, suffixed, step_at, step}
 use Rattle.ed_rules.proofs.through.Needs.{needed, IfOk-need_then, all-parts}
 use Rattle.ed_rules.proofs.through.Addresses.{KeptAt, own-sought, addressed-through, targeted-through, taken-through}
@@ -29,7 +30,8 @@ own c = given_or c.addresses (standing (takes c.verb).default)
 module _ (P : State → Type 0) (Pattern : List ℕ → Type 0) (keeps : KeptAt P Pattern) where
   pub rule-through : (Q : State → Type 0) (watched : List (List ℕ)) (c : Command) (s : State) → All Pattern (sought c) → P s →
       ((u : State) → P u → IfOk (effect c.listed c.addresses c.verb s u)
-      (λ r. Q (saying (matches_after watched c.listed c.addresses (takes c.verb).lines s u) (with_zone (ended r.marks r.zone) r)))) →
+      (λ r. Q (saying (matches_after watched c.listed c.addresses (takes c.verb).lines s u) (facts_after watched c.listed c.addresses c.verb u r)
+      (with_zone (ended r.marks r.zone) r)))) →
       IfOk (step watched c s) Q
   rule-through Q watched c s g h does =
       let a : Addresses = given_or c.addresses (standing (takes c.verb).default) in
@@ -41,4 +43,5 @@ module _ (P : State → Type 0) (Pattern : List ℕ → Type 0) (keeps : KeptAt 
       (taken-through P Pattern keeps (takes c.verb).taking c.addresses a p m)
       (λ u n. IfOk-bind _ Q (effect c.listed c.addresses c.verb s u) _ (does u n)
       (λ r q. suffixed-through Q c.suffix
-      (saying (matches_after watched c.listed c.addresses (takes c.verb).lines s u) (with_zone (ended r.marks r.zone) r)) q)))))
+      (saying (matches_after watched c.listed c.addresses (takes c.verb).lines s u) (facts_after watched c.listed c.addresses c.verb u r)
+      (with_zone (ended r.marks r.zone) r)) q)))))

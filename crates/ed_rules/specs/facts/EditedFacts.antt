@@ -4,8 +4,9 @@ use Rattle.std.specs.List.{list_all, list_any, filter}
 use Rattle.std.specs.Ordering.{int_eq}
 use Rattle.zones.specs.Name as name
 use Rattle.zones.specs.Zone.{Bounds}
+use Rattle.zones.specs.Known.{known}
 use Rattle.ed_syntax.specs.meaning.Values.{matches}
-use Rattle.ed_rules.specs.facts.Facts.{LineFact, Stretch, Facts, Point, at, point, end, le, below, is_clear, tells, differ}
+use Rattle.ed_rules.specs.facts.Facts.{LineFact, Stretch, Facts, Point, at, point, end, le, below, is_clear, tells, told, differ}
 
 -- of each pattern whether a new line matches it, where that is known
 abbrev pub Fresh : Type 0
@@ -17,6 +18,14 @@ pub record Edit : Type 0 where
   pub from : Point
   pub to : Point
   pub fresh : Option (List Fresh)
+
+-- the lines that give way, from one place to another, apart from the new ones
+pub record Between : Type 0 where
+  pub from : Point
+  pub to : Point
+
+abbrev pub edit_of : Between → Option (List Fresh) → Edit
+edit_of gap fresh = record { from = gap.from; to = gap.to; fresh = fresh }
 
 abbrev pub is_no : Option Bool → Bool
 is_no (Some false) = true
@@ -44,9 +53,14 @@ is_free_before_last pattern (Some fresh) = all_but_last pattern fresh
 abbrev pub is_single : Bounds → Edit → Bool
 is_single zone e = int_eq e.from.plus (pos 0) && (le zone e.from e.to (pos 0) && le zone e.to e.from (pos 0))
 
+-- lines are put in, and none gives way
+abbrev pub puts_in : Edit → Bool
+puts_in e = e.from.name == e.to.name && int_eq e.from.plus (e.to.plus +ℤ pos 1)
+
 -- the line of the letter x is not one of those that give way
 abbrev pub stays : Bounds → Facts → Edit → (x : ℕ) → Bool
-stays zone facts e x = below zone (at x) e.from || (below zone e.to (at x) || (is_single zone e && differ zone facts x e.from.name))
+stays zone facts e x =
+    puts_in e || (below zone (at x) e.from || (below zone e.to (at x) || (is_single zone e && differ zone facts x e.from.name)))
 
 -- no line between x and y gives way: they are on one side, or what gives way matches what no line between them does
 abbrev pub is_outside : Bounds → Facts → Edit → (patterns : List (List ℕ)) → (x y : Point) → Bool
@@ -147,13 +161,31 @@ changing text = record { from = at name.first_address; to = at name.second_addre
 abbrev pub joining : Edit
 joining = record { from = at name.first_address; to = at name.second_address; fresh = Some ((λ pattern. None) ∷ []) }
 
--- `a`: after the addressed line none gives way to those that are entered
-abbrev pub appending : (text : List (List ℕ)) → Edit
-appending text = record {
-  from = record { name = name.first_address; plus = pos 1 };
-  to = at name.first_address;
-  fresh = Some (map entered_line text);
+-- `s` of one line: it gives way to what comes of it, of which nothing is known; where it may be split, not even how many lines these are
+abbrev pub rewriting : (splits : Bool) → Edit
+rewriting splits = record {
+  from = at name.first_address;
+  to = at name.second_address;
+  fresh = if splits then None else Some ((λ pattern. None) ∷ []);
 }
+
+-- after the line x none gives way to others
+abbrev pub adding : (x : ℕ) → (fresh : Option (List Fresh)) → Edit
+adding x fresh = record { from = record { name = x; plus = pos 1 }; to = at x; fresh = fresh }
+
+-- `a`: those that are entered come after the addressed line
+abbrev pub appending : (text : List (List ℕ)) → Edit
+appending text = adding name.first_address (Some (map entered_line text))
+
+-- `r`: any number of them, of which nothing is known
+abbrev pub reading : Edit
+reading = adding name.first_address None
+
+-- `t`: a copy of one line, of which the same is known, comes after the target; of several lines nothing is known
+abbrev pub copying : Bounds → Facts → Edit
+copying zone facts =
+    adding name.target_address
+    (if known zone name.second_address name.first_address (pos 0) then Some (told zone facts name.second_address ∷ []) else None)
 
 -- `i`: before the addressed line none gives way to those that are entered
 abbrev pub inserting : (text : List (List ℕ)) → Edit

@@ -6,7 +6,7 @@ use crate::line_facts::{ClearStretch, KnownLine, LineFacts};
 use std::alloc::AllocError;
 
 impl KnownLine {
-    fn try_copy(&self) -> Result<KnownLine, AllocError>
+    pub(crate) fn try_copy(&self) -> Result<KnownLine, AllocError>
         ensures value { IfOk result (λ copy. copy ≡ self.now) }
     {
         Ok(KnownLine {
@@ -18,7 +18,7 @@ impl KnownLine {
 }
 
 impl ClearStretch {
-    fn try_copy(&self) -> Result<ClearStretch, AllocError>
+    pub(crate) fn try_copy(&self) -> Result<ClearStretch, AllocError>
         ensures value { IfOk result (λ copy. copy ≡ self.now) }
     {
         Ok(ClearStretch {

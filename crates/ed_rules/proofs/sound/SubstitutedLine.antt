@@ -1,0 +1,81 @@
+-- What `s` outside of lists does to one line: it gives way to the lines that come of it.
+use Rattle.std.proofs.Common.{◌≡◌, ◌≤◌, ℕ, ◌+◌, ◌-◌, Bool, true, false, List, [], ◌∷◌, ◌++◌, map, take, drop, length, Option, None, Some, Result, Ok, Err, IfOk, refl, sym, ap, subst, ◌∙◌, arith, All}
+use Rattle.std.specs.Prelude.{slice_index_or}
+use Rattle.std.specs.List.{list_any}
+use Rattle.std.proofs.lemmas.List.{append-nil, length-map}
+use Rattle.std.proofs.lemmas.List.Elements.{All-head, All-take, All-drop}
+use Rattle.ed_base.specs.declared.fault.Fault.{Fault}
+use Rattle.ed_base.specs.Buffer.{Line, plain_line}
+use Rattle.ed_base.specs.Lines.{IsLine}
+use Rattle.ed_base.specs.Parts.{between, replaced}
+use Rattle.ed_syntax.specs.declared.replacement.Part.{Part}
+use Rattle.ed_syntax.specs.declared.replacement.Which.{Which}
+use Rattle.ed_syntax.specs.Commands.{Form}
+use Rattle.ed_syntax.specs.meaning.States as editor
+use Rattle.ed_syntax.specs.meaning.Ranges.{Span}
+use Rattle.ed_syntax.specs.meaning.Values.{used_pattern}
+use Rattle.ed_syntax.specs.meaning.CommandLaws.{AreWhole}
+use Rattle.ed_syntax.specs.meaning.Effects.{Outcome, Effect, Makes}
+use Rattle.ed_syntax.specs.meaning.Applied.{making}
+use Rattle.ed_syntax.specs.meaning.SubstitutedLines.{made_of, Results, onto, each, used_replacement, made, substitute}
+use Rattle.ed_syntax.proofs.meaning.ResultLemmas.{IfOk-bind}
+use Rattle.ed_rules.specs.StandsFor.{ends_line}
+use Rattle.ed_rules.proofs.sound.LettersInLines.{line_with, line_with-plain}
+use Rattle.ed_rules.proofs.sound.Outcomes.{always, OnMade}
+use Rattle.ed_rules.proofs.sound.Results.{made-one}
+use Rattle.ed_rules.proofs.sound.SubstitutionEffects.{one-between}
+
+-- the line of the span gave way to new ones, the last of them current; where the replacement has no split, to one
+pub record IsRewritten (x : Span) (e : editor.State) (o : Outcome) : Type 0 where
+  pub parts : List Part
+  pub new : List Line
+  pub remembered : o.state.replacement ≡ Some parts
+  pub lines : o.state.lines ≡ replaced x.first x.last new e.lines
+  pub current : o.state.current + 1 ≡ x.first + length new
+  pub one : list_any ends_line parts ≡ false → length new ≡ 1
+  pub plain : (y : ℕ) → line_with y new ≡ None
+
+module _ (text : List ℕ) (parts : List Part) (choice : Which) (form : Option Form) (x : Span) (e : editor.State) (from : 1 ≤ x.first) where
+  abbrev begun : editor.State
+  begun = record e { pattern = Some text; replacement = Some parts }
+
+  -- one line
+  line-rewritten : (line : Line) → IsLine line.bytes → (o : Option (List (List ℕ))) → made_of text parts choice line.bytes ≡ o →
+      IfOk (made false form x begun (onto line o ([], None))) (IsRewritten x e)
+  line-rewritten line h None is = tt
+  line-rewritten line h (Some texts) is =
+      let same : map plain_line texts ++ [] ≡ map plain_line texts = append-nil (map plain_line texts) in
+      let size : length (map plain_line texts ++ []) ≡ length texts = ap length same ∙ length-map texts plain_line in
+      record {
+        parts = parts;
+        new = map plain_line texts ++ [];
+        remembered = refl;
+        lines = refl;
+        current = omega arith;
+        one = λ still. size ∙ made-one text parts choice still line.bytes texts h is;
+        plain = λ y. ap (line_with y) same ∙ line_with-plain y texts;
+      }
+
+  pub range-rewritten : x.last ≡ x.first → x.first ≤ length e.lines → AreWhole e.lines →
+      IfOk (made false form x begun (each (made_of text parts choice) (between x.first x.last e.lines))) (IsRewritten x e)
+  range-rewritten one inside whole =
+      let Whole : Line → Type 0 = λ (line : Line). IsLine line.bytes in
+      let line : Line = slice_index_or e.lines (x.first - 1) (plain_line []) in
+      let only : between x.first x.last e.lines ≡ line ∷ [] = one-between e.lines x.first x.last from one inside in
+      let bytes : IsLine line.bytes =
+      All-head Whole line [] (subst (λ (ls : List Line). All Whole ls) only (All-drop Whole (x.first - 1) (take x.last e.lines) (All-take Whole x.last e.lines whole))) in
+      subst (λ (ls : List Line). IfOk (made false form x begun (each (made_of text parts choice) ls)) (IsRewritten x e)) (sym only)
+      (line-rewritten line bytes (made_of text parts choice line.bytes) refl)
+
+making-made : (P : Outcome → Type 0) (r : Result Outcome Fault) → IfOk r P → OnMade P (making r)
+making-made P (Ok o) h = h
+making-made P (Err f) h = tt
+
+-- `s` of one line
+pub substitute-rewrites : (pattern : Option (List ℕ)) (replacement : Option (List Part)) (choice : Which) (form : Option Form) (x : Span) (e : editor.State) → 1 ≤ x.first →
+    x.last ≡ x.first → x.first ≤ length e.lines → AreWhole e.lines → OnMade (IsRewritten x e) (making (substitute false pattern replacement choice form x e))
+substitute-rewrites pattern replacement choice form x e from one inside whole =
+    making-made (IsRewritten x e) (substitute false pattern replacement choice form x e)
+    (IfOk-bind (λ (_ : List Part). Unit {0}) (IsRewritten x e) (used_replacement false replacement e) _ (always (used_replacement false replacement e))
+    (λ parts _. IfOk-bind (λ (_ : List ℕ). Unit {0}) (IsRewritten x e) (used_pattern pattern e) _ (always (used_pattern pattern e))
+    (λ text _. range-rewritten text parts choice form x e from one inside whole)))
