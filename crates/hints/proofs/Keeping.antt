@@ -1,5 +1,6 @@
 -- Starts that keep what another one says.
-use Rattle.std.proofs.Common.{◌≡◌, ℕ, List, [], ◌∷◌, ◌++◌, Option, Some, None, Result, Ok, Err, IfOk, IfSome, ◌<◌, ◌≤◌, refl, sym, ◌∙◌, ap, subst, inl, inr, arith}
+use Rattle.std.proofs.Common.{◌≡◌, ℕ, List, [], ◌∷◌, ◌++◌, Option, Some, None, Result, Ok, Err, IfOk, IfSome, ◌<◌, ◌≤◌, length, refl, sym, ◌∙◌, ap, subst, inl, inr, arith}
+use Rattle.std.specs.List.{remove}
 use Rattle.std.specs.declared.alloc.AllocError.{AllocError}
 use Rattle.std.proofs.lemmas.List.{append_assoc}
 use Rattle.landmarks.specs.ChainValues.{ChainValue}
@@ -8,8 +9,10 @@ use Rattle.cert_check.specs.declared.checker.verdict.Place.{Place}
 use Rattle.analyser.specs.declared.analysis.Start.{Start}
 use Rattle.analyser.specs.Following.{stated_of}
 use Rattle.hints.specs.declared.hint.Hint.{Hint}
-use Rattle.hints.specs.Passing.{IsStating, chains_in, IsLandmarking, IsWithin, Keeps}
-use Rattle.hints.specs.Hints.{IsTried}
+use Rattle.hints.specs.Passing.{IsVouched, IsStating, chains_in, IsLandmarking, IsWithin, Keeps}
+use Rattle.ed_syntax.specs.reading.Reading.{script_of}
+use Rattle.hints.specs.Landmarks.{marked_by}
+use Rattle.hints.specs.Hints.{IsMarked, IsTried}
 
 -- the most lines lie within themselves
 pub within-itself : (most : Option ℕ) → IsWithin most most
@@ -79,18 +82,35 @@ keeps-through start then now kept more = record {
   most = within-through start.max then.max now.max kept.most more.most;
 }
 
--- so a hint that was tried over a start that keeps what another one says was tried for that one
+-- landmarks that are needed beside those of a start are so beside those of one with the same
+marked-for : (old : List ℕ) (given then : Start) (new : List ℕ) (start : Start) → then.landmarks ≡ given.landmarks → IsMarked old then new start →
+    IsMarked old given new start
+marked-for old given then new start same (inl is) = inl (is ∙ same)
+marked-for old given then new start same (inr (reads, states)) = inr (
+  reads,
+  record {
+    added = states.added;
+    states = subst (λ (l : Option (List ChainValue)). start.landmarks ≡ Some (chains_in l ++ states.added)) same states.states;
+    vouched = states.vouched;
+    needed =
+        subst (λ (l : Option (List ChainValue)). (place : ℕ) → place < length states.added →
+        IsVouched (script_of old) (marked_by start (chains_in l ++ remove states.added place)) → ⊥) same states.needed;
+  },
+)
+
+-- so a hint that was tried over a start that keeps what another one says, its landmarks unchanged, was tried for that one
 pub tried-for : (script : List ℕ) (start then : Start) (place : Place) (r : Result (Option Hint) AllocError) → Keeps start then →
-    IfOk r (λ found. IfSome found (IsTried script then place)) → IfOk r (λ found. IfSome found (IsTried script start place))
-tried-for script start then place (Ok (Some h)) kept tried = record {
+    then.landmarks ≡ start.landmarks → IfOk r (λ found. IfSome found (IsTried script then place)) → IfOk r (λ found. IfSome found (IsTried script start place))
+tried-for script start then place (Ok (Some h)) kept same tried = record {
   from = tried.from;
   same = tried.same;
   kept = keeps-through start then h.start kept tried.kept;
+  marked = marked-for script start then h.script h.start same tried.marked;
   allowed = tried.allowed;
   past = tried.past;
 }
-tried-for script start then place (Ok None) kept tried = tt
-tried-for script start then place (Err e) kept tried = tt
+tried-for script start then place (Ok None) kept same tried = tt
+tried-for script start then place (Err e) kept same tried = tt
 
 -- a start with more patterns keeps what was stated
 pub keeps-patterns : (start then : Start) (patterns : List (List ℕ)) →

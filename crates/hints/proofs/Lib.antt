@@ -8,5 +8,6 @@ mod Enough
 mod Narrowed
 mod Proposed
 mod Stated
+mod ByLandmarks
 mod SoughtRows
 mod Worked

@@ -2,7 +2,7 @@
 use Rattle.std.specs.Prelude.{◌≡◌, ℕ, List, refl, true, false, [], ◌∷◌, Some, None, codes}
 use Rattle.ed_base.specs.declared.fault.Fault.TheVariants as fault
 use Rattle.ed_syntax.specs.Commands as ed
-use Rattle.ed_syntax.specs.Commands.{Address, Addresses, Without, One, Comma, Semicolon, Command, Script, at_base}
+use Rattle.ed_syntax.specs.Commands.{Address, Addresses, One, Comma, Semicolon, Command, Script, at_base}
 use Rattle.ed_rules.specs.declared.state.State.{State}
 use Rattle.cert_check.specs.declared.checker.verdict.Place.{Place}
 use Rattle.cert_check.specs.Certificates.{Note}
@@ -31,9 +31,10 @@ searches_and_bounds =
     -- that none may be remembered adds no pattern
     ∷ row ((s : State) → remembered (record s { patterns = None ∷ Some (codes "x") ∷ [] }) ≡ codes "x" ∷ []) (λ s. refl)  -- none is no pattern
     -- what some line is known to match needn't be stated, nor what every line matches
-    ∷ row ((s : State) → unmatched (delete (Comma (forward (codes "a")) (forward (codes "b")))) (record s { matches = record s.matches { has = codes "a" ∷ [] } }) ≡ codes "b" ∷ []) (λ s. refl)  -- matched one is left out
-    ∷ row ((s : State) → unmatched (delete (One (forward (codes "x*")))) (record s { matches = record s.matches { has = [] } }) ≡ []) (λ s. refl)  -- always matched one is left out
-    ∷ row ((s : State) → unmatched (delete (Comma (forward (codes "a")) again)) (record s { matches = record s.matches { has = [] } }) ≡ codes "a" ∷ []) (λ s. refl)  -- twice the same is stated once
+    ∷ row ((s : State) → unmatched (delete (Comma (forward (codes "a")) (forward (codes "b")))) (record s { matches = record s.matches { has = codes "a" ∷ [] }; follows = false }) ≡ codes "b" ∷ []) (λ s. refl)  -- matched one is left out
+    ∷ row ((s : State) → unmatched (delete (One (forward (codes "x*")))) (record s { matches = record s.matches { has = [] }; follows = false }) ≡ []) (λ s. refl)  -- always matched one is left out
+    ∷ row ((s : State) → unmatched (delete (Comma (forward (codes "a")) again)) (record s { matches = record s.matches { has = [] }; follows = false }) ≡ codes "a" ∷ []) (λ s. refl)  -- twice the same is stated once
+    ∷ row ((s : State) → unmatched (delete (One (forward (codes "a")))) (record s { matches = record s.matches { has = [] }; follows = true; facts = record { lines = record { name = 6; pattern = codes "a"; matches = true } ∷ []; clear = [] } }) ≡ []) (λ s. refl)  -- followed one is left out
     -- of a list what is known before the last command that was noted
     ∷ row ((s t u v : State) → known_at (record { command = 1; inner = Some 2 }) (record { state = s; looped = Some (record { invariant = t; inner = u ∷ v ∷ [] }) } ∷ []) ≡ Some v) (λ s t u v. refl)  -- second of a list
     ∷ row ((s t : State) → known_at (record { command = 1; inner = None }) (record { state = s; looped = None } ∷ record { state = t; looped = None } ∷ []) ≡ Some s) (λ s t. refl)  -- first of two commands

@@ -12,6 +12,7 @@ use Rattle.ed_syntax.specs.Commands.{Base, Address, Addresses, Without, One, Com
 use Rattle.ed_syntax.specs.meaning.Verbs.{takes}
 use Rattle.ed_rules.specs.declared.state.State.{State}
 use Rattle.ed_rules.specs.Texts.{is_member, with_texts}
+use Rattle.ed_rules.specs.Following.{is_followed}
 use Rattle.cert_check.specs.declared.checker.verdict.Place.{Place}
 use Rattle.cert_check.specs.Certificates.{Looped, Note}
 use Rattle.analyser.specs.declared.analysis.Start.{Start}
@@ -58,9 +59,10 @@ looked_for remembered (None ∷ later) = remembered ∷ looked_for remembered la
 abbrev pub remembered : State → List (List ℕ)
 remembered s = with_texts (filter_map (λ choice. choice) s.patterns) []
 
--- no line need match the pattern: it isn't one that some line is known to match, nor one that every line matches
+-- no line need match the pattern: it isn't one that some line is known to match, nor one that a line matches which is followed, nor one that
+-- every line matches
 abbrev pub is_unmatched : State → (text : List ℕ) → Bool
-is_unmatched s text = not (is_member s.matches.has text || text_is_always text)
+is_unmatched s text = not (is_member s.matches.has text || is_followed s text || text_is_always text)
 
 -- the set of those that a command's searches may look for and that no line need match
 abbrev pub unmatched : Command → State → List (List ℕ)

@@ -13,9 +13,10 @@ use crate::commands::line_at;
 use crate::drafts::Draft;
 use crate::further::{with_more_lines, with_needed_lines};
 use crate::hint::{Advice, Change, Hint, Remark};
+use crate::marked::with_landmark;
 use crate::passing::gets_past_all;
 use crate::rewritings::drafts_at;
-use crate::sought::unmatched_at;
+use crate::sought::{is_of_search, unmatched_at};
 use crate::starts::{copy_of, greatest_start, least_start, with_bounds};
 use crate::stating::with_stated;
 use analyser::Start;
@@ -246,6 +247,34 @@ fn or_both(
     Ok(found)
 }
 
+/// The hints that were found, and one to state landmarks where a search or an `s` fails.
+fn and_marked(
+    alloc: Global,
+    script: &[u8],
+    start: &Start,
+    place: Place,
+    line: usize,
+    why: Fault,
+    found: Vec<Hint>,
+) -> Result<Vec<Hint>, AllocError>
+    requires ordered { IsAtMost start.now.min start.now.max }
+    requires low { start.now.min ≤ most_lines }
+    requires high { IfSome start.now.max (λ most. most ≤ most_lines) }
+    requires found { All (IsTried script.now start.now place) found.items }
+    ensures tried { IfOk result (λ found. All (IsTried script.now start.now place) found.items) }
+    ensures kept { IfOk result (λ all. Any (AsksForMore script.now start.now) found.items → Any (AsksForMore script.now start.now) all.items) }
+    ensures also { IfOk result (λ all. (patterns : List (List ℕ)) →
+        Any (States script.now start.now patterns) found.items → Any (States script.now start.now patterns) all.items) }
+{
+    if !is_of_search(why) {
+        return Ok(found);
+    }
+    let mut found = found;
+    let marked = with_landmark(alloc, script, start, place, line)?;
+    push_hint(&mut found, script, start, place, marked)?;
+    Ok(found)
+}
+
 /// The path of a start.
 fn path_of(start: &Start) -> Option<&[u8]> {
     match &start.path {
@@ -316,7 +345,8 @@ pub fn hints(
     let drafts = drafts_at(alloc, script, path_of(start), place, why, notes)?;
     let written = first_past(alloc, script, start, place, line, drafts)?;
     push_hint(&mut found, script, start, place, written)?;
-    or_both(alloc, script, start, place, line, why, notes, found)
+    let found = or_both(alloc, script, start, place, line, why, notes, found)?;
+    and_marked(alloc, script, start, place, line, why, found)
 }
 
 /// What may be told beside hints of a need that fails at a place by a fault.

@@ -4,7 +4,7 @@ use ed_base::Bytes;
 use ed_rules::Texts;
 use landmarks::LandmarkChains;
 
-/// What is given of a start that is to be found for a script. What isn't given is found (`widest_start`).
+/// What is given of a start that is to be found for a script. What isn't given is found (`widest_start`, `landmark_start`).
 #[derive(Debug, Drop)]
 pub struct Given {
     /// The path of the start file; with none the buffer is empty. It is never found.
@@ -16,6 +16,7 @@ pub struct Given {
     /// The patterns that some line of the start matches, to which others may be added. With `None` a certificate of version 1 is made where
     /// none has to be added, and else one of version 2, as with the set of none.
     pub has: Option<Texts>,
-    /// The chains of landmarks that the start has, maybe none: a certificate of version 3 is made then. With `None` none are stated.
+    /// The chains of landmarks that the start has, maybe none, to which `landmark_start` may add others: a certificate of version 3 is made
+    /// then. With `None` none are stated unless it finds some.
     pub landmarks: Option<LandmarkChains>,
 }

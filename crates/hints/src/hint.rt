@@ -17,6 +17,8 @@ pub enum Advice {
     AtMost,
     /// To state by `--has` that some line matches a pattern.
     State,
+    /// To state by `--at` which lines the start has.
+    Landmark,
     /// To write the changes before they would be lost.
     Save,
     /// To close the text of a command by its `.`.
@@ -41,7 +43,7 @@ pub struct Change {
 }
 
 /// What to write where a script isn't vouched for: a script, mostly with another command, or a start with other bounds or with
-/// more patterns that some line matches. It is made only where that was tried.
+/// more patterns that some line matches, or landmarks. It is made only where that was tried.
 #[derive(Debug, Drop)]
 pub struct Hint {
     pub(crate) advice: Advice,

@@ -7,6 +7,7 @@ ghost use Rattle.bre_parse.specs.Always.{text_is_always};
 ghost use Rattle.ed_syntax.specs.PublicTypes.{address_value, command_value};
 ghost use Rattle.ed_syntax.specs.reading.Reading.{script_of};
 ghost use Rattle.ed_rules.specs.Texts.{is_member, with_texts};
+ghost use Rattle.ed_rules.specs.Following.{is_followed};
 ghost use Rattle.cert_check.specs.Certificates.{note_value};
 ghost use Rattle.hints.specs.Sought.{search_at, searches, looked_for, remembered, is_unmatched, unmatched, is_of_search, to_state};
 
@@ -16,7 +17,7 @@ use bre_parse::Bre;
 use bre_parse::fault::BreFault;
 use cert_check::{Note, Place};
 use ed_base::{Bytes, Fault};
-use ed_rules::{KeptState, Texts};
+use ed_rules::{KeptState, Texts, is_witnessed};
 use ed_syntax::{Address, Base, Command, Pattern, read_script};
 use std::alloc::{AllocError, Global};
 use zones::Name;
@@ -114,11 +115,18 @@ pub(crate) fn is_always(alloc: Global, text: &Bytes) -> Result<bool, AllocError>
     }
 }
 
+/// Whether a line that is followed is known to match a pattern.
+fn is_followed(state: &KeptState, text: &Bytes) -> bool
+    ensures value { result ≡ is_followed state.now text.now }
+{
+    state.follows() && is_witnessed(state.facts(), text.as_slice())
+}
+
 /// Whether some line is known to match a pattern, or every line does.
 fn is_matched(alloc: Global, state: &KeptState, text: &Bytes) -> Result<bool, AllocError>
-    ensures value { IfOk result (λ yes. yes ≡ (is_member state.now.matches.has text.now || text_is_always text.now)) }
+    ensures value { IfOk result (λ yes. yes ≡ (is_member state.now.matches.has text.now || is_followed state.now text.now || text_is_always text.now)) }
 {
-    if state.matches().has.has(text.as_slice()) {
+    if state.matches().has.has(text.as_slice()) || is_followed(state, text) {
         return Ok(true);
     }
     is_always(alloc, text)
@@ -128,7 +136,8 @@ fn is_matched(alloc: Global, state: &KeptState, text: &Bytes) -> Result<bool, Al
 fn is_found(alloc: Global, state: &KeptState, patterns: &Texts) -> Result<bool, AllocError> {
     let has_line = state.zone().is_known(Name::ZERO, Name::LAST_LINE, -1);
     for text in patterns.members() {
-        if !state.matches().has.has(text.as_slice()) && !(has_line && is_always(alloc, text)?) {
+        let known = state.matches().has.has(text.as_slice()) || is_followed(state, text);
+        if !known && !(has_line && is_always(alloc, text)?) {
             return Ok(false);
         }
     }
@@ -181,7 +190,7 @@ fn unmatched_by(alloc: Global, command: &Command, state: &KeptState) -> Result<T
 }
 
 /// Whether a line that a search finds may mend a fault.
-fn is_of_search(why: Fault) -> bool
+pub(crate) fn is_of_search(why: Fault) -> bool
     ensures value { result ≡ is_of_search why }
 {
     match why {

@@ -57,6 +57,14 @@ fn with_patterns(alloc: Global, start: &Start, patterns: &Texts) -> Result<Start
 /// How many bytes of options are shown at most, and then the option that goes beyond them.
 const MOST_OPTIONS: usize = 200;
 
+/// The option that states a pattern, with a space before it. What begins with a hyphen isn't read as the word of an option that stands before it.
+pub(crate) fn has_option(pattern: &[u8]) -> &'static str {
+    match pattern {
+        [b'-', ..] => " --has=",
+        _ => " --has ",
+    }
+}
+
 /// The options that state these patterns, each with a space before it. None where one of them can't be typed.
 fn options_of(alloc: Global, patterns: &Texts) -> Result<Option<String>, AllocError>
     ensures typable { IfOk result (λ options. All IsTypable patterns.now → IsSome options) }
@@ -66,13 +74,8 @@ fn options_of(alloc: Global, patterns: &Texts) -> Result<Option<String>, AllocEr
         let Some(word) = shell_word(alloc, pattern.as_slice())? else {
             return Ok(None);
         };
-        // What begins with a hyphen isn't read as the word of an option that stands before it.
-        let option = match pattern.as_slice() {
-            [b'-', ..] => " --has=",
-            _ => " --has ",
-        };
         if options.len() < MOST_OPTIONS {
-            options.push_str(option)?;
+            options.push_str(has_option(pattern.as_slice()))?;
             options.push_str(word.as_str())?;
         } else if !options.as_str().ends_with(" ..") {
             options.push_str(" ..")?;

@@ -100,7 +100,7 @@ pub(crate) fn widest_of(
 }
 
 /// The fewest lines that are given, or else as many as there may be.
-fn fullest_min(given: &Given) -> u64
+pub(crate) fn fullest_min(given: &Given) -> u64
     requires ordered { IfSome given.now.min (λ min. IsAtMost min given.now.max) }
     requires low { IfSome given.now.min (λ min. min ≤ most_lines) }
     requires high { IfSome given.now.max (λ most. most ≤ most_lines) }

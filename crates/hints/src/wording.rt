@@ -1,5 +1,6 @@
 //! A start as a person reads it. No clause speaks of these words.
 
+use crate::landmark_words::landmarks_text;
 use crate::words::{quoted, shown};
 use analyser::Start;
 use ed_base::Bytes;
@@ -64,8 +65,23 @@ fn matched_words(max: Option<u64>, told: bool, count: usize) -> &'static str {
     }
 }
 
+/// The patterns that lines of a file match, of whose number of lines something is told or not.
+fn patterns_text(alloc: Global, start: &Start, told: bool) -> Result<String, AllocError> {
+    let Some(has) = &start.has else {
+        return Ok(String::new(alloc));
+    };
+    let patterns = has.members();
+    if patterns.is_empty() {
+        return Ok(String::new(alloc));
+    }
+    let matched = matched_words(start.max, told, patterns.len());
+    let list = list_text(alloc, patterns)?;
+    Ok(format!(in alloc; "{matched} {}", list.as_str())?)
+}
+
 /// The starts that a script is vouched for over, in words, as ``any conf of at least 3 lines, one of which matches `^port=` `` without a
-/// newline. Where there is no path it is `no file`. Of a name and of each pattern at most a hundred bytes are shown.
+/// newline, or as ``any conf in which the first line that matches `^Port` matches `22` ``. Where there is no path it is `no file`. Of a name and
+/// of each pattern at most a hundred bytes are shown.
 pub fn start_words(alloc: Global, start: &Start) -> Result<String, AllocError> {
     let Some(path) = &start.path else {
         return String::from_str(alloc, "no file");
@@ -73,12 +89,13 @@ pub fn start_words(alloc: Global, start: &Start) -> Result<String, AllocError> {
     let name = shown(alloc, path.as_slice())?;
     let lines = lines_text(alloc, start.min, start.max)?;
     let mut words = format!(in alloc; "any {}{}", name.as_str(), lines.as_str())?;
-    if let Some(has) = &start.has {
-        let patterns = has.members();
-        if !patterns.is_empty() {
-            let matched = matched_words(start.max, !lines.is_empty(), patterns.len());
-            let list = list_text(alloc, patterns)?;
-            words.push_str(format!(in alloc; "{matched} {}", list.as_str())?.as_str())?;
+    let patterns = patterns_text(alloc, start, !lines.is_empty())?;
+    words.push_str(patterns.as_str())?;
+    if let Some(chains) = &start.landmarks {
+        let said = landmarks_text(alloc, chains.as_slice())?;
+        if !said.is_empty() {
+            words.push_str(" in which ")?;
+            words.push_str(said.as_str())?;
         }
     }
     Ok(words)

@@ -15,11 +15,11 @@ const MOST_SHOWN: usize = 100;
 pub(crate) fn shown(alloc: Global, bytes: &[u8]) -> Result<String, AllocError> {
     let mut word = String::new(alloc);
     match str::from_utf8(bytes) {
-        Ok(text) if are_shown(text) => push_front(&mut word, text, "'")?,
+        Ok(text) if are_shown(text) => push_front(&mut word, text, "'", MOST_SHOWN)?,
         _ => {
             let front = before(bytes, MOST_SHOWN.saturating_add(1));
             let escaped = format!(in alloc; "{}", front.escape_ascii())?;
-            push_front(&mut word, escaped.as_str(), "'")?;
+            push_front(&mut word, escaped.as_str(), "'", MOST_SHOWN)?;
         }
     }
     Ok(word)
@@ -37,22 +37,30 @@ pub(crate) fn shell_word(alloc: Global, bytes: &[u8]) -> Result<Option<String>, 
     ensures typable { IfOk result (λ word. IsSome word ↔ IsTypable bytes.now) }
 {
     match str::from_utf8(bytes) {
-        Ok(text) if are_shown(text) => Ok(Some(between_quotes(alloc, text)?)),
+        Ok(text) if are_shown(text) => Ok(Some(between_quotes(alloc, text, MOST_SHOWN)?)),
         _ => Ok(None),
     }
 }
 
-/// A text between single quotes, as a shell reads it.
-fn between_quotes(alloc: Global, text: &str) -> Result<String, AllocError> {
+/// The same with all of the bytes, however many there are.
+pub(crate) fn whole_word(alloc: Global, bytes: &[u8]) -> Result<Option<String>, AllocError> {
+    match str::from_utf8(bytes) {
+        Ok(text) if are_shown(text) => Ok(Some(between_quotes(alloc, text, text.len())?)),
+        _ => Ok(None),
+    }
+}
+
+/// A text between single quotes, as a shell reads it, of which so many bytes are shown at most.
+fn between_quotes(alloc: Global, text: &str, most: usize) -> Result<String, AllocError> {
     let mut word = String::from_str(alloc, "'")?;
-    push_front(&mut word, text, "'\\''")?;
+    push_front(&mut word, text, "'\\''", most)?;
     word.push_str("'")?;
     Ok(word)
 }
 
-/// Appends whole characters of a text, as many as may be shown, and `..` where more come. A single quote is written so.
-fn push_front(word: &mut String, text: &str, quote: &str) -> Result<(), AllocError> {
-    let mut left = MOST_SHOWN;
+/// Appends whole characters of a text, of so many bytes at most, and `..` where more come. A single quote is written so.
+fn push_front(word: &mut String, text: &str, quote: &str, most: usize) -> Result<(), AllocError> {
+    let mut left = most;
     for character in text.chars() {
         let len = character.len_utf8();
         if len > left {

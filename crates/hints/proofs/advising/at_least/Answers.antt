@@ -1,4 +1,4 @@
-use Rattle.std.proofs.Common.{refl, arith}
+use Rattle.std.proofs.Common.{refl, inl, arith}
 use Rattle.hints.specs.Passing.{with_min}
 use Rattle.hints.proofs.Keeping.{keeps-bounds, within-itself}
 use Rattle.hints.proofs.Chains.{tried-vouched}
@@ -10,5 +10,5 @@ returns-clause-tried c =
     let within = rw c.in-Some.is at c.in_ok-min.ensures.within in
     tried-vouched c.args.start.now c.args.place _ c.args.script.now (with_min c.args.start.now c.in-Some.min)
     (keeps-bounds c.args.start.now (with_min c.args.start.now c.in-Some.min) refl refl refl (omega (arith, above)) (within-itself c.args.start.now.max))
-    (record { ordered = within.1; low = within.0; high = c.requires.high }) (rw c.in-Some.is at c.in_ok-min.ensures.vouched) c.in_ok-from_slice.ensures.value
+    (inl refl) (record { ordered = within.1; low = within.0; high = c.requires.high }) (rw c.in-Some.is at c.in_ok-min.ensures.vouched) c.in_ok-from_slice.ensures.value
     c.in_ok-with_bounds.ensures.value c.unchanged_at.ensures.unchanged

@@ -13,8 +13,8 @@ returns-clause-asks c =
     let asks = AsksForMore c.args.script.now c.args.start.now in
     let first = c.push_hint.new.found.items in
     let second = c.push_hint-2.new.found.items in
-    IfOk-weaker c.or_both.result _ _
-    (λ all kept help. kept (
+    IfOk-weaker c.and_marked.result _ _
+    (λ all kept help. kept (c.in_ok-found-3.ensures.kept (
     any-kept asks c.in_ok-found-2.found.items c.push_hint-3.new.found.items c.in_ok-written.written c.in_ok-push_hint-3.ensures.pushed (
     c.in_ok-found-2.ensures.kept (c.in_ok-found.ensures.kept (
     any-kept asks first second c.in_ok-most.most c.in_ok-push_hint-2.ensures.pushed (
@@ -23,19 +23,19 @@ returns-clause-asks c =
     )
     ))
     )
-    ))
-    c.or_both.ensures.kept
+    )))
+    c.and_marked.ensures.kept
 
 pub returns-clause-states : goal.returns-clause-states
 returns-clause-states c =
     let patterns = c.in_ok-patterns.patterns in
     let states = States c.args.script.now c.args.start.now patterns in
-    let stated : IfOk c.or_both.result (λ all. StatingHelps (script_of c.args.script.now) c.args.start.now c.args.place patterns → Any states all.items) =
-    IfOk-weaker c.or_both.result _ _
-    (λ all also help. also patterns (
+    let stated : IfOk c.and_marked.result (λ all. StatingHelps (script_of c.args.script.now) c.args.start.now c.args.place patterns → Any states all.items) =
+    IfOk-weaker c.and_marked.result _ _
+    (λ all also help. also patterns (c.in_ok-found-3.ensures.also patterns (
     any-kept states c.in_ok-found-2.found.items c.push_hint-3.new.found.items c.in_ok-written.written c.in_ok-push_hint-3.ensures.pushed (
     c.in_ok-found-2.ensures.also patterns (c.in_ok-found.ensures.states help)
     )
-    ))
-    c.or_both.ensures.also in
+    )))
+    c.and_marked.ensures.also in
     rw c.in_ok-patterns.ensures.value at stated

@@ -1,3 +1,5 @@
+use Rattle.std.proofs.Common.{ap}
+use Rattle.analyser.specs.declared.analysis.Start.{Start}
 use Rattle.hints.proofs.Keeping.{keeps-bounded, tried-for, within-itself}
 use Rattle.hints.proofs.further.with_lines.Goals as goal
 
@@ -5,5 +7,6 @@ pub returns : goal.returns
 returns c = record {
   tried =
       tried-for c.args.script.now c.args.start.now c.in_ok-bounded.bounded c.args.place _
-      (keeps-bounded c.args.start.now c.in_ok-bounded.bounded c.args.min c.args.start.now.max c.in_ok-bounded.ensures.value c.requires.above (within-itself c.args.start.now.max)) c.past_by.ensures.tried;
+      (keeps-bounded c.args.start.now c.in_ok-bounded.bounded c.args.min c.args.start.now.max c.in_ok-bounded.ensures.value c.requires.above (within-itself c.args.start.now.max))
+      (ap (λ (s : Start). s.landmarks) c.in_ok-bounded.ensures.value) c.past_by.ensures.tried;
 }
