@@ -58,6 +58,18 @@ def searching(count):
     yield 'w\nq\n'
 
 
+# Nine lines, each the only one that its pattern matches.
+CHAIN = '; '.join(f'only /^key{number}=/' for number in range(1, 10))
+
+
+def landmarked(count):
+    """So many commands beside nine landmarks: below each in turn a line comes in and goes out again, and between one and the next all are shown."""
+    for number in range(count - 2):
+        turn, kind = number // 5 % 8 + 1, number % 5
+        yield (f'/^key{turn}=/a\nx\n.\n', f'/^key{turn}=/ka\n', f'/^key{turn}=/+1d\n', f'/^key{turn}=/;/^key{turn + 1}=/p\n', "'a=\n")[kind]
+    yield 'w\nq\n'
+
+
 def measured(words, script, output):
     """Processor seconds, peak memory and status of one run."""
     with open(script, 'rb') as source, open(output, 'wb') as sink:
@@ -132,6 +144,28 @@ def found(counts):
         os.chdir('/')
 
 
+def beside_landmarks(counts):
+    """One row for each number of commands: vouched for with landmarks, checked and run over a file that has them."""
+    print('\nLandmarks: nine lines of the start')
+    print(f'{"commands":>9} {"vouch":>17} {"check":>17} {"run":>17} {"edit":>17} {"certificate":>12}')
+    with tempfile.TemporaryDirectory() as folder:
+        os.chdir(folder)
+
+        def restore():
+            with open('F', 'w') as out:
+                out.writelines(f'key{number}=value\nother=value\n' for number in range(1, 10))
+
+        for count in counts:
+            with open('script', 'w') as out:
+                out.writelines(landmarked(count))
+            figures = [best(words, 'script', output, restore, 3) for words, output in (
+                (['vouch', '--min', '0', '--max', 'any', '--at', CHAIN, 'F'], 'C'), (['check', 'C'], 'told'),
+                (['run', 'C', '-s', 'F'], 'told'), (['edit', '-s', 'F'], 'told'))]
+            print(f'{count:>9} ' + ' '.join(f'{time:8.3f} s  {peak:4.0f} M' + ('' if status == 0 else f' ({status})')
+                                            for time, peak, status in figures) + f' {os.path.getsize("C") / 2**20:8.1f} MiB', flush=True)
+        os.chdir('/')
+
+
 def main():
     resource.setrlimit(resource.RLIMIT_CORE, (0, 0))
     table('Small scripts, over a file of 10 lines', small, 10, [0, 1, 10], 100)
@@ -140,6 +174,7 @@ def main():
           line='line {:07} of a text that is forty-seven bytes\n')
     table('Globals, over a file of 1,000 lines', globals_of, 1000, [10, 100, 1000])
     found([10, 100, 1000])
+    beside_landmarks([10, 100, 1000])
 
 
 if __name__ == '__main__':

@@ -7,7 +7,7 @@ _edv() {
     return
   fi
   case $before in
-  --min | --has) return ;;
+  --min | --has | --at) return ;;
   --max)
     mapfile -t COMPREPLY < <(compgen -W any -- "$word")
     return
@@ -18,9 +18,9 @@ _edv() {
   -*)
     local words=
     case $job in
-    edit) words="--vouched --like --whole -n --dry-run -s -p -f --help" ;;
-    vouch) words="--like --min --max --all -q --quiet --patterns --has -f --help" ;;
-    explain) words="--like --min --max --patterns --has -f --help" ;;
+    edit) words="--vouched --like --at --whole -n --dry-run -s -p -f --help" ;;
+    vouch) words="--like --min --max --all -q --quiet --patterns --has --at -f --help" ;;
+    explain) words="--like --min --max --patterns --has --at -f --help" ;;
     check) words="-f --help" ;;
     run) words="--whole -n --dry-run -s -f --help" ;;
     fits) words="--help" ;;

@@ -10,13 +10,15 @@ import tempfile
 
 HERE = os.path.dirname(os.path.abspath(__file__))
 ELSE = 'then (?:works on another line|takes back something else)'
+# Options as a hint shows them, each with its value as a word of a shell.
+OPTIONS = r"(?: --\w+[ =](?:'(?:[^']|'\\'')*'|\w+))+"
 PROGRAM = os.environ.get('PROGRAM', f'{HERE}/../../crates/ed_main/out/ed_main')
 
 
-def vouch(script, minimum, maximum, has, path='F'):
+def vouch(script, minimum, maximum, has, chains=(), path='F'):
     """The status and the lines on standard error."""
     words = [PROGRAM, 'vouch', '--min', str(minimum), '--max', str(maximum)]
-    words += [f'--has={pattern}' for pattern in has] + ([path] if path else [])
+    words += [f'--has={pattern}' for pattern in has] + [f'--at={chain}' for chain in chains] + ([path] if path else [])
     run = subprocess.run(words, input=script, capture_output=True)
     return run.returncode, run.stderr.decode('utf-8', 'replace').splitlines()
 
@@ -129,9 +131,10 @@ def mended(lines, at, hint):
     return None
 
 
-def steps(script, minimum, maximum, has):
-    """What each hint on a script leads to: its text, the script, the bounds and the patterns. The line that fails is told too."""
-    status, said = vouch(script, minimum, maximum, has)
+def steps(script, minimum, maximum, has, chains=()):
+    """What each hint on a script leads to: its text, the script, the bounds, the patterns and the chains of landmarks. The line that fails
+    is told too."""
+    status, said = vouch(script, minimum, maximum, has, chains)
     found = []
     lines = script.decode('latin-1').split('\n')
     lines = lines[:-1] if lines and lines[-1] == '' else lines
@@ -141,11 +144,11 @@ def steps(script, minimum, maximum, has):
         if not line.startswith('hint: '):
             continue
         hint = text = line[len('hint: '):]
-        least, most, stated = minimum, maximum, has
+        least, most, stated, marked = minimum, maximum, has, list(chains)
         both = re.match(r'with --min (\d+): (.*)', hint)
         if both:
             least, hint = int(both.group(1)), both.group(2)
-        options = re.match(r'(?:vouched for|gets further|vouch) with (--.*?)(?:, which run then tests)?$', hint)
+        options = re.fullmatch(rf'(?:vouched for|gets further|vouch) with({OPTIONS})(?: \.\.)?(?: \(.*\))?(?:, which run then tests)?', hint)
         new = lines
         if options:
             words = shlex.split(options.group(1).replace('--has=', '--has '))
@@ -154,13 +157,15 @@ def steps(script, minimum, maximum, has):
                     least = int(value)
                 elif option == '--max':
                     most = int(value)
+                elif option == '--at':
+                    marked = marked + [value]
                 else:
                     stated = stated + [value]
         else:
             new = mended(lines, at, hint)
         if new is not None:
             joined = ('\n'.join(new) + '\n').encode('latin-1')
-            found.append((text, joined, least, most, stated))
+            found.append((text, joined, least, most, stated, marked))
     return status, at, lines, found
 
 

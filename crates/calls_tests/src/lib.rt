@@ -22,6 +22,8 @@ mod found;
 #[cfg(test)]
 mod judging;
 #[cfg(test)]
+mod landmarked;
+#[cfg(test)]
 mod like;
 #[cfg(test)]
 mod runs;

@@ -16,7 +16,7 @@ use Rattle.ed_session.specs.declared.phase.Phase.{Phase}
 use Rattle.ed_session.specs.declared.phase.Phase.TheVariants as phases
 use Rattle.ed_session.specs.Calls.{written, GoesOn, BreaksOff, Leads, Starts}
 use Rattle.ed_session.specs.Drives.{Log, answers, requests, Drove, Begun, CutOff, Finished, EndsMissing, FileRefused, of_commands}
-use Rattle.ed_session.specs.Sessions.{SessionValue, made, path_of, rest, is_over, is_started}
+use Rattle.ed_session.specs.Sessions.{SessionValue, made, path_of, rest, is_started}
 use Rattle.ed_session.specs.Sinks.{SinkChange, Took, Failed}
 use Rattle.ed_calls.specs.Edit as edit
 use Rattle.ed_calls.specs.Edit.{ComesTo}

@@ -3,7 +3,6 @@ use Rattle.std.proofs.Common.{◌≡◌, ◌↔◌, ℕ, List, [], ◌∷◌, �
 use Rattle.std.specs.Prelude.{IfSome}
 use Rattle.landmarks.specs.declared.landmark.Landmark.{Landmark}
 use Rattle.landmarks.specs.Places.{AreAt}
-use Rattle.landmarks.specs.Starts.{AreEachAt}
 use Rattle.landmarks.specs.Starts.AreEachAt.{over, next}
 use Rattle.landmarks.specs.ChainValues.{ChainValue}
 use Rattle.cert_check.specs.declared.certificate.Version.{Version}

@@ -7,6 +7,8 @@ mod Joining
 mod Judgements
 mod KnownStates
 mod LandmarkedStarts
+mod LetterCounts
+mod Nowhere
 mod Sayings
 mod StartTested
 mod StatedPatterns

@@ -5,6 +5,7 @@ pub mod Told
 pub mod Check
 pub mod Names
 pub mod Starts
+pub mod Landmarked
 pub mod Vouch
 pub mod Judging
 pub mod Run

@@ -1,15 +1,19 @@
 //! The start that a script is judged over.
-ghost use Rattle.std.specs.Prelude.{◌≡◌, ◌≤◌, IfOk};
+ghost use Rattle.std.specs.Prelude.{◌≡◌, ◌≤◌, [], IfOk, unwrap_or};
 ghost use Rattle.ed_rules.specs.LineBounds.{most_lines};
 ghost use Rattle.hints.specs.Like.{lines_in};
-ghost use Rattle.hints.specs.Passing.{IsAllowed};
-ghost use Rattle.ed_calls.specs.Starts.{AreAllowed, IsJudgedFor, IsPartOfStart, path_of};
+ghost use Rattle.ed_syntax.specs.reading.Reading.{script_of};
+ghost use Rattle.hints.specs.Passing.{IsAllowed, IsVouched};
+ghost use Rattle.hints.specs.Widest.{fullest};
+ghost use Rattle.ed_calls.specs.Starts.{AreAllowed, IsJudgedFor, IsPartOfStart, chains_given, path_of, with_landmarks};
 
 use analyser::Start;
 use ed_base::Bytes;
 use ed_rules::Texts;
-use hints::{Given, Like, copy_of, fullest_like, fullest_start, like_start, widest_start};
-use landmarks::LandmarkChains;
+use hints::{
+    Given, Like, copy_of, fullest_like, fullest_start, landmark_start, like_start, widest_start,
+};
+use landmarks::{LandmarkChain, LandmarkChains};
 use std::alloc::{AllocError, Global};
 
 /// The start that a script is judged over.
@@ -17,7 +21,8 @@ use std::alloc::{AllocError, Global};
 pub enum Starts {
     /// This one.
     Given(Start),
-    /// The widest one of what is given of it, which is found (`hints::widest_start`).
+    /// The widest one of what is given of it, which is found (`hints::widest_start`), or one with landmarks beside that, where there is no other
+    /// (`hints::landmark_start`).
     Widest(Given),
     /// The widest one that a file is one of, which is proposed (`hints::like_start`).
     Like(Like),
@@ -32,6 +37,40 @@ impl Starts {
             Starts::Given(start) => &start.path,
             Starts::Widest(given) => &given.path,
             Starts::Like(like) => &like.path,
+        }
+    }
+
+    /// The chains of landmarks that are given.
+    pub fn landmarks(&self) -> &[LandmarkChain]
+        ensures value { result.now ≡ chains_given self.now }
+    {
+        match self {
+            Starts::Given(start) => chains_in(&start.landmarks),
+            Starts::Widest(given) => chains_in(&given.landmarks),
+            Starts::Like(_) => &[],
+        }
+    }
+
+    /// The same with these landmarks in place of those that are given. To one that is proposed from a file none can be given.
+    pub fn with_landmarks(self, landmarks: LandmarkChains) -> Starts
+        ensures value { result ≡ with_landmarks landmarks self }
+    {
+        match self {
+            Starts::Given(start) => Starts::Given(Start {
+                path: start.path,
+                min: start.min,
+                max: start.max,
+                has: start.has,
+                landmarks: Some(landmarks),
+            }),
+            Starts::Widest(given) => Starts::Widest(Given {
+                path: given.path,
+                min: given.min,
+                max: given.max,
+                has: given.has,
+                landmarks: Some(landmarks),
+            }),
+            Starts::Like(like) => Starts::Like(like),
         }
     }
 
@@ -65,6 +104,16 @@ impl Starts {
             Starts::Widest(given) => given.min.is_none() && given.max.is_none(),
             Starts::Given(_) | Starts::Like(_) => false,
         }
+    }
+}
+
+/// The chains of landmarks, where some are given.
+fn chains_in(landmarks: &Option<LandmarkChains>) -> &[LandmarkChain]
+    ensures value { result.now ≡ unwrap_or landmarks.now [] }
+{
+    match landmarks {
+        Some(landmarks) => landmarks.as_slice(),
+        None => &[],
     }
 }
 
@@ -134,13 +183,27 @@ pub(crate) fn start_of(alloc: Global, script: &[u8], starts: Starts) -> Result<S
     }
 }
 
-/// The widest start of what is given with which a script is vouched for, or else the fullest one.
+/// The widest start of what is given with which a script is vouched for, or else one with landmarks, or else the fullest one.
 fn widest_of(alloc: Global, script: &[u8], given: &Given) -> Result<Start, AllocError>
     requires allowed { IsPartOfStart given.now.min given.now.max }
     ensures judged { IfOk result (IsJudgedFor script.now (Starts.Widest given.now)) }
     ensures allowed { IfOk result IsAllowed }
 {
     let found = widest_start(alloc, script, given)?;
+    match found {
+        Some(start) => Ok(start),
+        None => landmarked_of(alloc, script, given),
+    }
+}
+
+/// The start with landmarks that is found for a script which isn't vouched for with those that are given, or else the fullest one.
+fn landmarked_of(alloc: Global, script: &[u8], given: &Given) -> Result<Start, AllocError>
+    requires allowed { IsPartOfStart given.now.min given.now.max }
+    requires refused { ¬ IsVouched (script_of script.now) (fullest (script_of script.now) given.now) }
+    ensures judged { IfOk result (IsJudgedFor script.now (Starts.Widest given.now)) }
+    ensures allowed { IfOk result IsAllowed }
+{
+    let found = landmark_start(alloc, script, given)?;
     match found {
         Some(start) => Ok(start),
         None => fullest_start(alloc, script, given),

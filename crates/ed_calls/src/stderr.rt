@@ -4,6 +4,7 @@ pub mod command_line;
 pub mod file_name;
 mod found;
 mod hinted;
+mod letters;
 mod missed;
 pub mod pattern;
 mod reasons;

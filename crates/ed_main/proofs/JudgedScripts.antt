@@ -1,11 +1,9 @@
 -- What came of scripts that were judged one after another.
-use Rattle.std.proofs.Common.{◌≡◌, ◌+◌, ℕ, List, [], ◌∷◌, Bool, true, false, length, refl, ap, ◌∙◌, true≢false, arith}
+use Rattle.std.proofs.Common.{◌≡◌, ◌+◌, ℕ, List, [], ◌∷◌, true, false, length, refl, ap, ◌∙◌, true≢false, arith}
 use Rattle.std.proofs.Math.Dec.{eqb-suc-zero}
-use Rattle.std.specs.Prelude.{All}
 use Rattle.std.proofs.lemmas.List.Elements.{All-nil, All-cons}
 use Rattle.ed_calls.specs.declared.starts.Starts.{Starts}
-use Rattle.ed_calls.specs.Judging.{IsJudgement}
-use Rattle.ed_main.specs.Several.{AreJudged, IsOutcome, Judges, greater, greatest, names_none}
+use Rattle.ed_main.specs.Several.{AreJudged, IsJudged, IsOutcome, Judges, greater, names_none}
 
 module _ (starts : Starts) where
   pub none_judged : AreJudged starts 0 0
@@ -20,7 +18,7 @@ module _ (starts : Starts) where
     greatest_of = ap (greater one) before.greatest_of;
   }
 
-  pub input_judged : (script : List ℕ) (scripts : List (List ℕ)) (status : ℕ) → true ≡ names_none scripts → IsJudgement script starts status → Judges script starts scripts status
+  pub input_judged : (script : List ℕ) (scripts : List (List ℕ)) (status : ℕ) → true ≡ names_none scripts → IsJudged script starts status → Judges script starts scripts status
   input_judged script [] status none came = came
   input_judged script (path ∷ paths) status none came = absurd (true≢false (none ∙ eqb-suc-zero (length paths)))
 

@@ -1,3 +1,4 @@
+mod ChainLemmas
 mod GivenPatterns
 mod Holding
 mod Made

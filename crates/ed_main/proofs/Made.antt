@@ -1,5 +1,5 @@
 -- What a task comes to, by its run and by how the writes of that were made.
-use Rattle.std.proofs.Common.{◌≡◌, ℕ, refl, sym, subst}
+use Rattle.std.proofs.Common.{◌≡◌, ℕ, sym, subst}
 use Rattle.ed_session.specs.Drives.{Log}
 use Rattle.ed_main.specs.Program.{AreMade, Comes, Ran, Somehow}
 use Rattle.ed_main.specs.declared.task.Task.{Task}

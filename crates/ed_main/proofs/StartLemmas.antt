@@ -3,11 +3,13 @@ use Rattle.std.proofs.Common.{◌≡◌, ◌≤◌, ◌∙◌, ℕ, Bool, true, 
 use Rattle.std.specs.Prelude.{IfSome}
 use Rattle.std.proofs.lemmas.Bool.{leb-true}
 use Rattle.ed_rules.specs.LineBounds.{IsAtMost, is_within, most_lines}
-use Rattle.ed_calls.specs.Starts.{AreAllowed, path_of}
+use Rattle.landmarks.specs.ChainValues.{ChainValue}
+use Rattle.ed_calls.specs.Starts.{AreAllowed, path_of, with_landmarks}
 use Rattle.ed_calls.specs.declared.starts.Starts.{Starts}
+use Rattle.ed_calls.specs.declared.starts.Starts.TheVariants as starts
 use Rattle.ed_main.specs.Job.{IsGiven}
 use Rattle.ed_main.specs.Starts.{AreStarts, HasBytes, any_start}
-use Rattle.ed_main.specs.Wanted.{AreWanted, IsFromFile, IsWanted, WithStarts, read, unread}
+use Rattle.ed_main.specs.Wanted.{AreWanted, IsFromFile, IsWanted, WithStarts, landmarked, read, unread}
 use Rattle.ed_main.specs.declared.wanted.Wanted.{Wanted}
 use Rattle.ed_main.specs.declared.wanted.Wanted.TheVariants as wanted
 use Rattle.ed_main.specs.Several.{status_of_unread}
@@ -52,6 +54,12 @@ path_has_bytes None named is = cc
 path_has_bytes (Some []) named is = cc
 path_has_bytes (Some (byte ∷ bytes)) named is = cc
 
+-- landmarks change neither
+pub with_landmarks_given : (chains : List ChainValue) (starts : Starts) → AreStarts starts → AreStarts (with_landmarks chains starts)
+with_landmarks_given chains (starts.Given start) given = record { allowed = given.allowed; path = given.path }
+with_landmarks_given chains (starts.Widest part) given = record { allowed = given.allowed; path = given.path }
+with_landmarks_given chains (starts.Like like) given = given
+
 -- what is known of the starts of a job
 pub starts_given : (path : Option (List ℕ)) (least : Option ℕ) (most : Option (Option ℕ)) (has : Option (List (List ℕ)))
     → are_in_order least most ≡ true → AreFew least → IfSome most AreFew → is_path path ≡ true → AreStarts (starts_of path least most has)
@@ -62,17 +70,17 @@ starts_given path least most has order low high named =
     }
 
 -- any start with a file is one of these
-any_given : (path : Option (List ℕ)) (has : Option (List (List ℕ))) → is_path path ≡ true → AreStarts (any_start path has)
+pub any_given : (path : Option (List ℕ)) (has : Option (List (List ℕ))) → is_path path ≡ true → AreStarts (any_start path has)
 any_given path has named = record { allowed = any_allowed path has; path = λ is. path_has_bytes path named (sym (any_kept path has) ∙ is) }
 
 -- so is what `edit --vouched` judges a script over
-over_given : (path like : Option (List ℕ)) → is_path path ≡ true → IsWanted (judged_over path like)
-over_given path None named = any_given path (Some []) named
-over_given path (Some like) named = path_has_bytes path named
+over_given : (path like : Option (List ℕ)) (at : List (List ℕ)) → is_path path ≡ true → IsWanted (judged_over path like at)
+over_given path None at named = any_given path (Some []) named
+over_given path (Some like) at named = path_has_bytes path named
 
-pub judged_given : (vouched : Bool) (path like : Option (List ℕ)) → is_path path ≡ true → IfSome (judged_if vouched path like) IsWanted
-judged_given true path like named = over_given path like named
-judged_given false path like named = tt
+pub judged_given : (vouched : Bool) (path like : Option (List ℕ)) (at : List (List ℕ)) → is_path path ≡ true → IfSome (judged_if vouched path like at) IsWanted
+judged_given true path like at named = over_given path like at named
+judged_given false path like at named = tt
 
 -- a job of `vouch` has the start that it was made of
 pub vouching_given : (over : Wanted) (scripts : List (List ℕ)) (all quiet : Bool) → IsWanted over → IsGiven (vouching_of over scripts all quiet)
@@ -84,10 +92,10 @@ vouching_given over (script ∷ next ∷ scripts) all false given = given
 module _ (Used : Starts → ℕ → Type 0) (status : ℕ) where
   -- what was asked for was used
   pub used : (over : Wanted) (starts : Starts) → AreWanted over starts → Used starts status → WithStarts over Used status
-  used (wanted.Stated given) starts is came = subst (λ s. Used s status) is came
+  used (wanted.Stated given at) starts is came = landmarked starts is came
   used (wanted.Like path patterns like) starts is came = read is.0 (subst (λ s. Used s status) is.1 came)
 
   -- or the file wasn't read
   pub unused : (over : Wanted) (fault : ReadFault) → IsFromFile over → status ≡ status_of_unread fault → WithStarts over Used status
-  unused (wanted.Stated given) fault from is = absurd from
+  unused (wanted.Stated given at) fault from is = absurd from
   unused (wanted.Like path patterns like) fault from is = unread fault is

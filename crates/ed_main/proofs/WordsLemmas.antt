@@ -20,7 +20,7 @@ use Rattle.ed_main.specs.declared.words.WordsFault.{WordsFault}
 use Rattle.ed_main.specs.declared.words.WordsFault.TheVariants as fault
 use Rattle.ed_rules.specs.LineBounds.{is_few}
 use Rattle.ed_main.specs.Subcommands.{program}
-use Rattle.ed_main.specs.Words.{IsRequest, MayAsk, OnlyAsk, are_digits, lines_in, job_by_name, job_of, job_named, texts_in, unless_refused}
+use Rattle.ed_main.specs.Words.{AreHadBy, AreHadIn, IsRequest, MayAsk, OnlyAsk, are_digits, lines_in, job_by_name, job_of, job_named, texts_in, unless_refused}
 
 -- `clap` says of the program all that it says of simple commands
 simple : is_simple program ≡ true
@@ -49,6 +49,11 @@ pub given_by : (a : App) (words : List Text) (found : Option (Text × List Row))
 given_by a words found R e none is =
     given words found (ap (λ (b : App). fault_of b words) (sym e) ∙ none (ap is_simple_and_free e ∙ simple_and_free))
     (ap (λ (b : App). subcommand_of b words) (sym e) ∙ sym (is (ap is_simple e ∙ simple)).1)
+
+-- the subcommand that was found is that of the words
+pub found_by : (a : App) (words : List Text) (found : Option (Text × List Row)) (R : Type 0) → a ≡ program
+    → (is_simple a ≡ true → R × (found ≡ subcommand_of a words)) → found ≡ subcommand_of program words
+found_by a words found R e is = (is (ap is_simple e ∙ simple)).1 ∙ ap (λ (b : App). subcommand_of b words) e
 
 refused_for : (words : List Text) (k : ErrorKind) (f : WordsFault) → (k ≡ kind.OutOfMemory) ⊎ IsAmong k (fault_of program words)
     → (k ≡ kind.OutOfMemory → f ≡ fault.Memory) → f ≢ fault.Memory → job_of words ≡ None
@@ -111,6 +116,11 @@ is_named m name rows is found = named (out-ArgMatches m).subcommand name rows is
 -- and none gives no job
 pub none_named : (m : ArgMatches) → subcommand_name_of m ≡ None → job_named (subcommand_rows_of m) ≡ None
 none_named m is = none (out-ArgMatches m).subcommand is
+
+-- landmarks that a subcommand is given are those of its rows
+pub had_by : (found : Option (Text × List Row)) (rows : List Row) → option_map (λ p. p.1) found ≡ Some rows → AreHadBy found → AreHadIn rows
+had_by None rows is had = cc
+had_by (Some p) rows is had = let same : p.1 ≡ rows = cc in subst AreHadIn same had
 
 -- all values of an argument, by what was found
 pub texts_found : (f : Found) (id : Text) (texts : Option (List Text)) → texts ≡ option_map raw_values (matched_of f id) → unwrap_or texts [] ≡ texts_in id (rows_of f)

@@ -23,7 +23,7 @@ rehearsal silent prompt path = Some (job.Edit (record { silent = silent; prompt 
 
 -- what a script is judged over on a file F, where it is: any such file
 abbrev over_any : (vouched : Bool) → Option Wanted
-over_any true = Some (Stated (Widest (record { path = Some (codes "F"); min = None; max = None; has = Some []; landmarks = None })))
+over_any true = Some (Stated (Widest (record { path = Some (codes "F"); min = None; max = None; has = Some []; landmarks = None })) [])
 over_any false = None
 
 -- a run on F only if the script is vouched for, or its rehearsal
@@ -33,7 +33,7 @@ edit_vouched rehearsed = Some (job.Edit (record { silent = false; prompt = None;
 -- the same on the empty buffer
 abbrev edit_empty_vouched : Option Job
 edit_empty_vouched =
-    let over = Stated (Given (record { path = None; min = 0; max = Some 0; has = Some []; landmarks = None })) in
+    let over = Stated (Given (record { path = None; min = 0; max = Some 0; has = Some []; landmarks = None })) [] in
     Some (job.Edit (record { silent = false; prompt = None; path = None }) None writing.AtOnce (Some over))
 
 -- a run on F only if the script is vouched for over files like G
@@ -48,27 +48,47 @@ edit_whole vouched = Some (job.Edit (record { silent = false; prompt = None; pat
 
 -- a certificate for these bounds
 abbrev vouch : ℕ → Option ℕ → Option (List ℕ) → Option Job
-vouch min max path = Some (job.Vouch (Stated (Given (record { path = path; min = min; max = max; has = None; landmarks = None }))) None false)
+vouch min max path = Some (job.Vouch (Stated (Given (record { path = path; min = min; max = max; has = None; landmarks = None })) []) None false)
 
 -- the same, or else all refusals
 abbrev vouch_all : ℕ → Option ℕ → Option (List ℕ) → Option Job
-vouch_all min max path = Some (job.Vouch (Stated (Given (record { path = path; min = min; max = max; has = None; landmarks = None }))) None true)
+vouch_all min max path = Some (job.Vouch (Stated (Given (record { path = path; min = min; max = max; has = None; landmarks = None })) []) None true)
 
 -- a certificate that tells of patterns, which states these
 abbrev vouch_with : List (List ℕ) → Option Job
-vouch_with has = Some (job.Vouch (Stated (Given (record { path = Some (codes "F"); min = 1; max = None; has = Some has; landmarks = None }))) None false)
+vouch_with has = Some (job.Vouch (Stated (Given (record { path = Some (codes "F"); min = 1; max = None; has = Some has; landmarks = None })) []) None false)
 
 -- a certificate for the widest start of these bounds, as far as they are given
 abbrev vouch_widest : (min max : Option ℕ) → Option Job
-vouch_widest min max = Some (job.Vouch (Stated (Widest (record { path = Some (codes "F"); min = min; max = max; has = None; landmarks = None }))) None false)
+vouch_widest min max = Some (job.Vouch (Stated (Widest (record { path = Some (codes "F"); min = min; max = max; has = None; landmarks = None })) []) None false)
 
 -- a certificate for the empty buffer, with these patterns, or else all refusals
 abbrev vouch_empty_with : List (List ℕ) → Option Job
-vouch_empty_with has = Some (job.Vouch (Stated (Given (record { path = None; min = 0; max = Some 0; has = Some has; landmarks = None }))) None true)
+vouch_empty_with has = Some (job.Vouch (Stated (Given (record { path = None; min = 0; max = Some 0; has = Some has; landmarks = None })) []) None true)
 
 -- a certificate for files F like G, or all refusals; one that tells of patterns, if it is asked for
 abbrev vouch_like : (patterns all : Bool) → Option Job
 vouch_like patterns all = Some (job.Vouch (Like (Some (codes "F")) patterns (codes "G")) None all)
+
+-- a certificate for the widest start with these landmarks, or for one of these bounds too
+abbrev vouch_at : List (List ℕ) → Option Job
+vouch_at at =
+    Some (job.Vouch (Stated (Widest (record { path = Some (codes "F"); min = None; max = None; has = None; landmarks = None })) at) None false)
+
+abbrev vouch_within_at : List (List ℕ) → Option Job
+vouch_within_at at =
+    Some (job.Vouch (Stated (Given (record { path = Some (codes "F"); min = 1; max = Some 9; has = None; landmarks = None })) at) None false)
+
+-- a run on F only if the script is vouched for over files that have these landmarks
+abbrev edit_at : List (List ℕ) → Option Job
+edit_at at =
+    let over = Stated (Widest (record { path = Some (codes "F"); min = None; max = None; has = Some []; landmarks = None })) at in
+    Some (job.Edit (record { silent = false; prompt = None; path = Some (codes "F") }) None writing.AtOnce (Some over))
+
+-- a script that is explained over files that have these landmarks
+abbrev explain_at : List (List ℕ) → Option Job
+explain_at at =
+    Some (job.Explain (Stated (Widest (record { path = Some (codes "FILE"); min = None; max = None; has = None; landmarks = None })) at) None)
 
 -- a check
 abbrev check : List ℕ → Option Job
@@ -91,11 +111,11 @@ abbrev edit_from_file : (silent vouched : Bool) → Option Job
 edit_from_file silent vouched = Some (job.Edit (record { silent = silent; prompt = None; path = Some (codes "F") }) (Some (codes "S")) writing.AtOnce (over_any vouched))
 
 abbrev vouch_from_file : Option Job
-vouch_from_file = Some (job.Vouch (Stated (Widest (record { path = Some (codes "F"); min = None; max = None; has = None; landmarks = None }))) (Some (codes "S")) false)
+vouch_from_file = Some (job.Vouch (Stated (Widest (record { path = Some (codes "F"); min = None; max = None; has = None; landmarks = None })) []) (Some (codes "S")) false)
 
 -- scripts that are judged without certificates
 abbrev judge : (scripts : List (List ℕ)) → Detail → Option Job
-judge scripts detail = Some (job.Judge (Stated (Widest (record { path = Some (codes "F"); min = None; max = None; has = None; landmarks = None }))) scripts detail)
+judge scripts detail = Some (job.Judge (Stated (Widest (record { path = Some (codes "F"); min = None; max = None; has = None; landmarks = None })) []) scripts detail)
 
 abbrev judge_like : (scripts : List (List ℕ)) → Detail → Option Job
 judge_like scripts detail = Some (job.Judge (Like (Some (codes "F")) false (codes "G")) scripts detail)
@@ -279,4 +299,17 @@ words =
     ∷ row (job_given (codes "edit" ∷ codes "--vouched" ∷ codes "--like" ∷ codes "-" ∷ codes "F" ∷ []) ≡ None) refl  -- a run on files like a hyphen
     ∷ row (job_given (codes "run" ∷ codes "--like" ∷ codes "G" ∷ codes "C" ∷ codes "F" ∷ []) ≡ None) refl  -- a run by a certificate on files like another
     ∷ row (job_given (codes "fits" ∷ codes "--like" ∷ codes "G" ∷ codes "C" ∷ codes "F" ∷ []) ≡ None) refl  -- a test of files like another
+    ∷ row (job_given (codes "vouch" ∷ codes "--at" ∷ codes "/a/" ∷ codes "F" ∷ []) ≡ vouch_at (codes "/a/" ∷ [])) refl  -- a landmark
+    ∷ row (job_given (codes "vouch" ∷ codes "--at=/b/; /c/" ∷ codes "F" ∷ codes "--at" ∷ codes "/a/" ∷ []) ≡ vouch_at (codes "/b/; /c/" ∷ codes "/a/" ∷ [])) refl  -- two chains, in their order
+    ∷ row (job_given (codes "vouch" ∷ codes "--at" ∷ codes "5" ∷ codes "--max" ∷ codes "9" ∷ codes "--min" ∷ codes "1" ∷ codes "F" ∷ []) ≡ vouch_within_at (codes "5" ∷ [])) refl  -- a line, and bounds
+    ∷ row (job_given (codes "vouch" ∷ codes "--at" ∷ codes "/a/" ∷ []) ≡ None) refl  -- a landmark of no file
+    ∷ row (job_given (codes "vouch" ∷ codes "--at" ∷ []) ≡ None) refl  -- no chain
+    ∷ row (job_given (codes "vouch" ∷ codes "--like" ∷ codes "G" ∷ codes "--at" ∷ codes "/a/" ∷ codes "F" ∷ []) ≡ None) refl  -- files like one, with a landmark
+    ∷ row (job_given (codes "edit" ∷ codes "--vouched" ∷ codes "--at" ∷ codes "/a/" ∷ codes "F" ∷ []) ≡ edit_at (codes "/a/" ∷ [])) refl  -- a run on files with a landmark
+    ∷ row (job_given (codes "edit" ∷ codes "--at" ∷ codes "/a/" ∷ codes "F" ∷ []) ≡ None) refl  -- a run that isn't vouched for on files with a landmark
+    ∷ row (job_given (codes "edit" ∷ codes "--vouched" ∷ codes "--at" ∷ codes "/a/" ∷ []) ≡ None) refl  -- a run on the empty buffer, with a landmark
+    ∷ row (job_given (codes "edit" ∷ codes "--vouched" ∷ codes "--at" ∷ codes "/a/" ∷ codes "--like" ∷ codes "G" ∷ codes "F" ∷ []) ≡ None) refl  -- a run on files like one, with a landmark
+    ∷ row (job_given (codes "explain" ∷ codes "--at" ∷ codes "/a/" ∷ []) ≡ explain_at (codes "/a/" ∷ [])) refl  -- explained with a landmark
+    ∷ row (job_given (codes "explain" ∷ codes "--at" ∷ codes "/a/" ∷ codes "C" ∷ []) ≡ None) refl  -- a landmark beside a certificate
+    ∷ row (job_given (codes "check" ∷ codes "--at" ∷ codes "/a/" ∷ codes "C" ∷ []) ≡ None) refl  -- a landmark of a check
     ∷ []

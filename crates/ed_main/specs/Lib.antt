@@ -2,6 +2,8 @@
 pub mod Subcommands
 pub mod Starts
 pub mod Several
+pub mod Letters
+pub mod Chains
 pub mod Wanted
 pub mod Words
 pub mod Job

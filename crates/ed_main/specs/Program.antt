@@ -30,6 +30,7 @@ use Rattle.ed_main.specs.declared.words.WordsFault.TheVariants as words
 use Rattle.ed_main.specs.declared.writing.Writing.{Writing}
 use Rattle.ed_main.specs.declared.writing.Writing.TheVariants as writing
 use Rattle.ed_main.specs.Job.{IsGiven}
+use Rattle.ed_main.specs.Letters.{WithLetters}
 use Rattle.ed_main.specs.Several.{Judges, names_none, status_of_unread}
 use Rattle.ed_main.specs.Wanted.{WithFile, WithStarts}
 
@@ -127,10 +128,13 @@ Comes task = Writes task.writing (ComesBy task.trust task.script.now task.option
 -- what a job comes to, for a script of these bytes; a test of a start has none, and scripts in files are read as they are judged
 abbrev pub Does : List ℕ → Job → ℕ → Type 0
 Does script (job.Edit options named writes None) = Somehow (Writes writes (Edits script options))
-Does script (job.Edit options named writes (Some wanted)) = WithStarts wanted (λ starts. Somehow (Writes writes (EditsVouched starts script options)))
-Does script (job.Vouch wanted named all) = WithStarts wanted (λ starts. Somehow (λ met. Says (Vouches script starts) met.sink))
+Does script (job.Edit options named writes (Some wanted)) =
+    WithStarts wanted (λ starts. WithLetters script starts (Somehow (Writes writes (EditsVouched starts script options))))
+Does script (job.Vouch wanted named all) =
+    WithStarts wanted (λ starts. WithLetters script starts (Somehow (λ met. Says (Vouches script starts) met.sink)))
 Does script (job.Judge wanted scripts detail) = WithStarts wanted (λ starts. Judges script starts scripts)
-Does script (job.Explain wanted named) = WithStarts wanted (λ starts. Somehow (λ met. Says (Explains script starts) met.sink))
+Does script (job.Explain wanted named) =
+    WithStarts wanted (λ starts. WithLetters script starts (Somehow (λ met. Says (Explains script starts) met.sink)))
 Does script (job.ExplainBy path named) = WithFile (λ certificate. Somehow (λ met. Says (ExplainsBy script certificate) met.sink))
 Does script (job.Check path named) = WithFile (λ certificate. Somehow (λ met. Says (Checks script certificate) met.sink))
 Does script (job.Run path options named writes) = WithFile (λ certificate. Somehow (Writes writes (RunsOn script certificate options)))

@@ -6,6 +6,7 @@ use Rattle.sources.specs.declared.source.ReadFault.{ReadFault}
 use Rattle.sources.specs.declared.source.ReadFault.TheVariants as reading
 use Rattle.ed_calls.specs.declared.starts.Starts.{Starts}
 use Rattle.ed_calls.specs.Judging.{IsJudgement}
+use Rattle.ed_main.specs.Letters.{WithLetters}
 
 -- input that isn't read ends the program as a file does that is refused
 abbrev pub status_of_unread : ReadFault → ℕ
@@ -20,9 +21,13 @@ abbrev pub greatest : List ℕ → ℕ
 greatest [] = 0
 greatest (status ∷ statuses) = greater status (greatest statuses)
 
+-- what came of a script that was read: it was judged, if it leaves letters for the landmarks
+abbrev pub IsJudged : (script : List ℕ) → Starts → ℕ → Type 0
+IsJudged script starts status = WithLetters script starts (IsJudgement script starts) status
+
 -- what came of one script: it was read and judged, or it wasn't read
 pub data IsOutcome (starts : Starts) (status : ℕ) : Type 0 where
-  judged : (script : List ℕ) → IsJudgement script starts status → IsOutcome starts status
+  judged : (script : List ℕ) → IsJudged script starts status → IsOutcome starts status
   unread : (fault : ReadFault) → status ≡ status_of_unread fault → IsOutcome starts status
 
 -- So many scripts were judged: each has a status that came of it, and the greatest one is that of all.
@@ -38,5 +43,5 @@ names_none scripts = nat_eq (length scripts) 0
 
 -- the scripts in the files at these paths were judged, or where no path is given the one of these bytes
 abbrev pub Judges : (script : List ℕ) → Starts → (scripts : List (List ℕ)) → ℕ → Type 0
-Judges script starts [] status = IsJudgement script starts status
+Judges script starts [] status = IsJudged script starts status
 Judges script starts (path ∷ paths) status = AreJudged starts (length (path ∷ paths)) status

@@ -64,6 +64,10 @@ patterns = record (new_rule (codes "patterns")) { long = Some (codes "patterns")
 abbrev pub has : Rule
 has = record (new_rule (codes "has")) { long = Some (codes "has"); action = Some Append; value_names = 1 }
 
+-- `--at CHAIN`, which may come more than once
+abbrev pub at : Rule
+at = record (new_rule (codes "at")) { long = Some (codes "at"); action = Some Append; value_names = 1 }
+
 -- `[CERT]`
 abbrev pub notes : Rule
 notes = record (new_rule (codes "certificate")) { action = Some Set; value_names = 1 }
@@ -76,17 +80,17 @@ certificate = record notes { required = true }
 abbrev pub subcommand : List ℕ → List Rule → App
 subcommand name takes = on_top (λ s. record s { rules = takes }) (new_app name)
 
--- `edit [--vouched] [--like FILE] [--whole] [-n] [-s] [-p STRING] [-f SCRIPT] [FILE]`
+-- `edit [--vouched] [--like FILE] [--at CHAIN] [--whole] [-n] [-s] [-p STRING] [-f SCRIPT] [FILE]`
 abbrev pub edit : App
-edit = subcommand (codes "edit") (vouched ∷ like ∷ whole ∷ rehearsed ∷ silent ∷ prompt ∷ script ∷ file ∷ [])
+edit = subcommand (codes "edit") (vouched ∷ like ∷ at ∷ whole ∷ rehearsed ∷ silent ∷ prompt ∷ script ∷ file ∷ [])
 
--- `vouch [--like FILE] [--min N] [--max M] [--all] [-q] [--patterns] [--has RE] [-f SCRIPT] [FILE]`
+-- `vouch [--like FILE] [--min N] [--max M] [--all] [-q] [--patterns] [--has RE] [--at CHAIN] [-f SCRIPT] [FILE]`
 abbrev pub vouch : App
-vouch = subcommand (codes "vouch") (like ∷ min ∷ max ∷ all ∷ quiet ∷ patterns ∷ has ∷ scripts ∷ file ∷ [])
+vouch = subcommand (codes "vouch") (like ∷ min ∷ max ∷ all ∷ quiet ∷ patterns ∷ has ∷ at ∷ scripts ∷ file ∷ [])
 
--- `explain [--like FILE] [--min N] [--max M] [--patterns] [--has RE] [-f SCRIPT] [CERT]`
+-- `explain [--like FILE] [--min N] [--max M] [--patterns] [--has RE] [--at CHAIN] [-f SCRIPT] [CERT]`
 abbrev pub explain : App
-explain = subcommand (codes "explain") (like ∷ min ∷ max ∷ patterns ∷ has ∷ script ∷ notes ∷ [])
+explain = subcommand (codes "explain") (like ∷ min ∷ max ∷ patterns ∷ has ∷ at ∷ script ∷ notes ∷ [])
 
 -- `check [-f SCRIPT] CERT`
 abbrev pub check : App

@@ -1,6 +1,6 @@
 -- The words that the program is given, as `clap` reads them, and the job that they give (XCU ed, "Synopsis"; our choice: no prompt or file
 -- that reads as an option).
-use Rattle.std.specs.Prelude.{◌≡◌, ◌≢◌, ◌⊎◌, ℕ, Bool, true, false, not, ◌&&◌, ◌||◌, List, [], ◌∷◌, codes, length, nat_eq, nat_lt, Option, Some, None, option_map, unwrap_or, is_ok, is_some, if◌then◌else◌}
+use Rattle.std.specs.Prelude.{◌≡◌, ◌≢◌, ◌⊎◌, ℕ, Bool, true, false, not, ◌&&◌, ◌||◌, List, [], ◌∷◌, codes, length, nat_eq, nat_lt, Option, Some, None, option_map, unwrap_or, is_none, is_ok, is_some, if◌then◌else◌}
 use Rattle.std.specs.List.{list_all}
 use Rattle.std.specs.Option.{option_map_or}
 use Rattle.std.specs.Char.{digit_value}
@@ -25,6 +25,7 @@ use Rattle.ed_main.specs.declared.wanted.Wanted.{Wanted}
 use Rattle.ed_main.specs.declared.wanted.Wanted.TheVariants as wanted
 use Rattle.ed_main.specs.declared.writing.Writing.{Writing}
 use Rattle.ed_main.specs.declared.writing.Writing.TheVariants as writing
+use Rattle.ed_main.specs.Chains.{AreHad}
 use Rattle.ed_main.specs.Starts.{any_start}
 use Rattle.ed_main.specs.Subcommands.{program}
 
@@ -82,35 +83,70 @@ is_quiet rows = is_given (first_of (codes "quiet") rows)
 abbrev pub like_in : List Row → Option (List ℕ)
 like_in rows = first_of (codes "like") rows
 
--- a bound of the start is stated, or a pattern
+-- a bound of the start is stated, a pattern or a landmark
 abbrev pub states_start : List Row → Bool
 states_start rows =
-    is_some (first_of (codes "min") rows) || (is_some (first_of (codes "max") rows) || is_some (first_of (codes "has") rows))
+    is_some (first_of (codes "min") rows) || (is_some (first_of (codes "max") rows)
+    || (is_some (first_of (codes "has") rows) || is_some (first_of (codes "at") rows)))
 
 -- the file that a script is to be read from
 abbrev pub script_in : List Row → Option (List ℕ)
 script_in rows = first_of (codes "script") rows
 
--- the start over which `edit --vouched` judges a script: any with the file at this path, which is found with the patterns that it has to
--- match; or one that is proposed from another file
-abbrev pub judged_over : (path like : Option (List ℕ)) → Wanted
-judged_over path None = wanted.Stated (any_start path (Some []))
-judged_over path (Some like) = wanted.Like path true like
+-- the start over which `edit --vouched` judges a script: any with the file at this path and these landmarks, which is found with the patterns
+-- that it has to match; or one that is proposed from another file
+abbrev pub judged_over : (path like : Option (List ℕ)) → (at : List (List ℕ)) → Wanted
+judged_over path None at = wanted.Stated (any_start path (Some [])) at
+judged_over path (Some like) at = wanted.Like path true like
 
 -- `edit` judges a script where it is asked to
-abbrev pub judged_if : (vouched : Bool) → (path like : Option (List ℕ)) → Option Wanted
-judged_if true path like = Some (judged_over path like)
-judged_if false path like = None
+abbrev pub judged_if : (vouched : Bool) → (path like : Option (List ℕ)) → (at : List (List ℕ)) → Option Wanted
+judged_if true path like at = Some (judged_over path like at)
+judged_if false path like at = None
 
 -- a start may be proposed from a file where it is sought, and nothing else is given of it, for a file that is named
 abbrev pub may_propose : (sought : Bool) → (path like : Option (List ℕ)) → Bool
 may_propose sought path None = true
 may_propose sought path (Some like) = is_some path && (sought && is_path (Some like))
 
--- a run with these options, where they may be given
-abbrev pub editing : Options → (script : Option (List ℕ)) → Writing → (vouched : Bool) → (like : Option (List ℕ)) → Option Job
-editing o script writes vouched like = elim (is_prompt o.prompt && (is_path o.path && (is_path script && may_propose vouched o.path like))) [
-  | true ↦ Some (job.Edit o script writes (judged_if vouched o.path like))
+-- landmarks, where some are given, are those of a file that is named
+abbrev pub may_have : (path : Option (List ℕ)) → (at : List (List ℕ)) → Bool
+may_have path [] = true
+may_have path (chain ∷ at) = is_some path
+
+-- a file to propose a start from, or landmarks, are given only of a script that is judged, for a file that is named, and not both
+abbrev pub may_judge : (vouched : Bool) → (path like : Option (List ℕ)) → (at : List (List ℕ)) → Bool
+may_judge vouched path like [] = may_propose vouched path like
+may_judge vouched path like (chain ∷ at) = vouched && (is_some path && is_none like)
+
+-- the values of an option that may come several times
+abbrev pub texts_in : (id : List ℕ) → List Row → List (List ℕ)
+texts_in id rows = unwrap_or (all_of id rows) []
+
+-- the texts of chains of landmarks
+abbrev pub chains_in : List Row → List (List ℕ)
+chains_in rows = texts_in (codes "at") rows
+
+-- the start over which `edit` judges a script on the file at this path with these landmarks, where it is asked to
+abbrev pub judged_with : (path : Option (List ℕ)) → (at : List (List ℕ)) → List Row → Option (Option Wanted)
+judged_with path at rows = elim (may_judge (is_to_be_vouched rows) path (like_in rows) at) [
+  | true ↦ Some (judged_if (is_to_be_vouched rows) path (like_in rows) at)
+  | false ↦ None
+]
+
+-- the one with the landmarks that are given
+abbrev pub judged_in : (path : Option (List ℕ)) → List Row → Option (Option Wanted)
+judged_in path rows = judged_with path (chains_in rows) rows
+
+-- a run with these options
+abbrev pub editing_over : Options → (script : Option (List ℕ)) → Writing → Option (Option Wanted) → Option Job
+editing_over o script writes None = None
+editing_over o script writes (Some judged) = Some (job.Edit o script writes judged)
+
+-- where they may be given
+abbrev pub editing : Options → (script : Option (List ℕ)) → Writing → Option (Option Wanted) → Option Job
+editing o script writes judged = elim (is_prompt o.prompt && (is_path o.path && is_path script)) [
+  | true ↦ editing_over o script writes judged
   | false ↦ None
 ]
 
@@ -149,10 +185,6 @@ starts_of path (Some least) None has = Widest (record { path = path; min = Some 
 starts_of path None (Some most) has = Widest (record { path = path; min = None; max = most; has = has; landmarks = None })
 starts_of path None None has = any_start path has
 
--- the values of an option that may come several times
-abbrev pub texts_in : (id : List ℕ) → List Row → List (List ℕ)
-texts_in id rows = unwrap_or (all_of id rows) []
-
 -- each of these texts is a pattern
 abbrev pub are_patterns : List (List ℕ) → Bool
 are_patterns texts = list_all (λ text. is_ok (pattern text)) texts
@@ -180,20 +212,21 @@ abbrev pub vouching_of : Wanted → (scripts : List (List ℕ)) → (all quiet :
 vouching_of over scripts all true = job.Judge over scripts Nothing
 vouching_of over scripts all false = telling_of over scripts all
 
--- the start of these bounds, where the low one isn't above the high one, and of these patterns, where each is one
-abbrev pub stated_within : (least : Option ℕ) → (most : Option (Option ℕ)) → (path : Option (List ℕ)) → (asked : Bool) → (has : List (List ℕ)) → Option Wanted
-stated_within least most path asked has = elim (are_in_order least most && are_patterns has) [
-  | true ↦ Some (wanted.Stated (starts_of path least most (stated asked has)))
+-- the start of these bounds, where the low one isn't above the high one, of these patterns, where each is one, and of these landmarks, where
+-- they may be given
+abbrev pub stated_within : (least : Option ℕ) → (most : Option (Option ℕ)) → (path : Option (List ℕ)) → (asked : Bool) → (has at : List (List ℕ)) → Option Wanted
+stated_within least most path asked has at = elim (are_in_order least most && (are_patterns has && may_have path at)) [
+  | true ↦ Some (wanted.Stated (starts_of path least most (stated asked has)) at)
   | false ↦ None
 ]
 
-abbrev pub stated_from : (least : Option ℕ) → Option (Option (Option ℕ)) → (path : Option (List ℕ)) → (asked : Bool) → (has : List (List ℕ)) → Option Wanted
-stated_from least None path asked has = None
-stated_from least (Some most) path asked has = stated_within least most path asked has
+abbrev pub stated_from : (least : Option ℕ) → Option (Option (Option ℕ)) → (path : Option (List ℕ)) → (asked : Bool) → (has at : List (List ℕ)) → Option Wanted
+stated_from least None path asked has at = None
+stated_from least (Some most) path asked has at = stated_within least most path asked has at
 
-abbrev pub stated_read : Option (Option ℕ) → Option (Option (Option ℕ)) → (path : Option (List ℕ)) → (asked : Bool) → (has : List (List ℕ)) → Option Wanted
-stated_read None most path asked has = None
-stated_read (Some least) most path asked has = stated_from least most path asked has
+abbrev pub stated_read : Option (Option ℕ) → Option (Option (Option ℕ)) → (path : Option (List ℕ)) → (asked : Bool) → (has at : List (List ℕ)) → Option Wanted
+stated_read None most path asked has at = None
+stated_read (Some least) most path asked has at = stated_from least most path asked has at
 
 -- certificates that tell of patterns are asked for by their flag
 abbrev pub tells_of_patterns : List Row → Bool
@@ -202,7 +235,8 @@ tells_of_patterns rows = is_given (first_of (codes "patterns") rows)
 -- the start for the file at this path that is stated, as far as it is
 abbrev pub stated_in : (path : Option (List ℕ)) → List Row → Option Wanted
 stated_in path rows =
-    stated_read (least_in (first_of (codes "min") rows)) (most_in (first_of (codes "max") rows)) path (tells_of_patterns rows) (texts_in (codes "has") rows)
+    stated_read (least_in (first_of (codes "min") rows)) (most_in (first_of (codes "max") rows)) path (tells_of_patterns rows)
+    (texts_in (codes "has") rows) (chains_in rows)
 
 -- the one that is proposed from another file, where neither a bound nor a pattern is stated
 abbrev pub proposed_in : (path : Option (List ℕ)) → (like : List ℕ) → List Row → Option Wanted
@@ -270,7 +304,7 @@ explaining (Some path) rows = explaining_by path rows
 
 -- the job of each subcommand with what it was given
 abbrev pub edit_job : List Row → Option Job
-edit_job rows = editing (options_in rows) (script_in rows) (writing_in rows) (is_to_be_vouched rows) (like_in rows)
+edit_job rows = editing (options_in rows) (script_in rows) (writing_in rows) (judged_in (first_of (codes "file") rows) rows)
 
 -- the job of `vouch` with these scripts
 abbrev pub vouch_job_of : List Row → (scripts : List (List ℕ)) → Option Job
@@ -314,6 +348,24 @@ unless_refused (kind ∷ kinds) found = None
 -- the job that the words give, of which the first is the program's own name
 unfoldable pub job_of : List (List ℕ) → Option Job
 job_of words = unless_refused (fault_of program words) (job_named (subcommand_of program words))
+
+-- the most lines that the file may have, where a limit is given
+abbrev pub limit_of : Option (Option (Option ℕ)) → Option ℕ
+limit_of None = None
+limit_of (Some most) = unwrap_or most None
+
+-- the texts of chains spell some, and some file of so many lines has their landmarks
+abbrev pub AreHadIn : List Row → Type 0
+AreHadIn rows = AreHad (limit_of (most_in (first_of (codes "max") rows))) (chains_in rows)
+
+-- the same of the words of a subcommand, where there is one
+abbrev pub AreHadBy : Option (List ℕ × List Row) → Type 0
+AreHadBy None = Unit {0}
+AreHadBy (Some p) = AreHadIn p.1
+
+-- the same of all words
+abbrev pub MayBeHad : List (List ℕ) → Type 0
+MayBeHad words = AreHadBy (subcommand_of program words)
 
 -- help or the version is asked for
 abbrev pub IsRequest : ErrorKind → Type 0

@@ -2,8 +2,10 @@
 #![tactic(auto)]
 
 mod any_start;
+mod chains;
 mod inputs;
 mod job;
+mod letters;
 mod paths;
 mod patterns;
 mod program;

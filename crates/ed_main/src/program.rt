@@ -6,6 +6,7 @@ ghost use Rattle.ed_calls.specs.Fits.{Fits};
 ghost use Rattle.ed_calls.specs.Told.{Says};
 ghost use Rattle.ed_calls.specs.Vouch.{Vouches};
 ghost use Rattle.ed_main.specs.Job.{IsGiven};
+ghost use Rattle.ed_main.specs.Letters.{WithLetters};
 ghost use Rattle.ed_main.specs.Program.{Does, Edits, EditsVouched, EndsWords, IsEnding, RunsOn, Somehow, Writes};
 ghost use Rattle.ed_main.specs.Several.{Judges};
 ghost use Rattle.ed_main.specs.Starts.{AreStarts};
@@ -14,11 +15,12 @@ ghost use Rattle.ed_main.specs.declared.job.Job.TheVariants as jobs;
 
 use crate::inputs::{bytes_at, refuse_script, script_from, status_of_read};
 use crate::job::Job;
+use crate::letters::{USAGE_STATUS, refusal_for};
 use crate::paths::Paths;
 use crate::proposing::starts_from;
 use crate::several::judge_scripts;
 use crate::stderr::notes::{show_empty, show_terminal};
-use crate::stderr::usage::USAGE;
+use crate::stderr::usage::{EDIT_USAGE, EXPLAIN_USAGE, USAGE, VOUCH_USAGE};
 use crate::task::{Task, Trust, do_task, files_of};
 use crate::wanted::Wanted;
 use crate::words::{WordsFault, job_of_words};
@@ -35,9 +37,6 @@ use std::fs::File;
 use std::io::IsTerminal;
 use std::rt::{Env, Files};
 use std::{env, io};
-
-/// The status of words that aren't understood.
-const USAGE_STATUS: u8 = 4;
 
 /// Does what the program's words say, and gives its exit status.
 pub fn status_of_run<R>(rt: &R) -> u8
@@ -190,11 +189,31 @@ where
     R: Files<File = File> + Print + Eprint + AllocGlobal,
     requires given { IsWanted wanted }
     ensures status { result ≤ 4 }
-    ensures came { WithStarts wanted (λ starts. Somehow (Writes writing (EditsVouched starts script.now options))) result }
+    ensures came { WithStarts wanted (λ starts. WithLetters script.now starts (Somehow (Writes writing (EditsVouched starts script.now options)))) result }
 {
     match starts_from(rt, wanted, false) {
-        Ok(starts) => edit_over(rt, script, options, writing, starts),
+        Ok(starts) => edit_if_lettered(rt, script, options, writing, starts),
         Err(fault) => status_of_read(fault),
+    }
+}
+
+/// The same, if the script leaves letters for the landmarks of this start.
+fn edit_if_lettered<R>(
+    rt: &R,
+    script: &[u8],
+    options: Options,
+    writing: Writing,
+    starts: Starts,
+) -> u8
+where
+    R: Files<File = File> + Print + Eprint + AllocGlobal,
+    requires given { AreStarts starts }
+    ensures status { result ≤ 4 }
+    ensures came { WithLetters script.now starts (Somehow (Writes writing (EditsVouched starts script.now options))) result }
+{
+    match refusal_for(rt, None, script, &starts, EDIT_USAGE, false) {
+        Some(status) => status,
+        None => edit_over(rt, script, options, writing, starts),
     }
 }
 
@@ -223,10 +242,10 @@ where
     R: Files<File = File> + Print + Eprint + AllocGlobal,
     requires given { IsWanted wanted }
     ensures status { result ≤ 4 }
-    ensures came { WithStarts wanted (λ starts. Somehow (λ met. Says (Vouches script.now starts) met.sink)) result }
+    ensures came { WithStarts wanted (λ starts. WithLetters script.now starts (Somehow (λ met. Says (Vouches script.now starts) met.sink))) result }
 {
     match starts_from(rt, wanted, false) {
-        Ok(starts) => vouch_file(rt, script, starts, all),
+        Ok(starts) => vouch_if_lettered(rt, script, starts, all),
         Err(fault) => status_of_read(fault),
     }
 }
@@ -242,6 +261,20 @@ where
     match starts_from(rt, wanted, detail == Detail::Nothing) {
         Ok(starts) => judge_scripts(rt, script, starts, scripts, detail),
         Err(fault) => status_of_read(fault),
+    }
+}
+
+/// The same over this start, if the script leaves letters for its landmarks.
+fn vouch_if_lettered<R>(rt: &R, script: &[u8], starts: Starts, all: bool) -> u8
+where
+    R: Print + Eprint + AllocGlobal,
+    requires given { AreStarts starts }
+    ensures status { result ≤ 4 }
+    ensures came { WithLetters script.now starts (Somehow (λ met. Says (Vouches script.now starts) met.sink)) result }
+{
+    match refusal_for(rt, None, script, &starts, VOUCH_USAGE, false) {
+        Some(status) => status,
+        None => vouch_file(rt, script, starts, all),
     }
 }
 
@@ -267,11 +300,25 @@ where
     R: Files<File = File> + Print + Eprint + AllocGlobal,
     requires given { IsWanted wanted }
     ensures status { result ≤ 4 }
-    ensures came { WithStarts wanted (λ starts. Somehow (λ met. Says (Explains script.now starts) met.sink)) result }
+    ensures came { WithStarts wanted (λ starts. WithLetters script.now starts (Somehow (λ met. Says (Explains script.now starts) met.sink))) result }
 {
     match starts_from(rt, wanted, false) {
-        Ok(starts) => explain_file(rt, script, starts),
+        Ok(starts) => explain_if_lettered(rt, script, starts),
         Err(fault) => status_of_read(fault),
+    }
+}
+
+/// The same over this start, if the script leaves letters for its landmarks.
+fn explain_if_lettered<R>(rt: &R, script: &[u8], starts: Starts) -> u8
+where
+    R: Print + Eprint + AllocGlobal,
+    requires given { AreStarts starts }
+    ensures status { result ≤ 4 }
+    ensures came { WithLetters script.now starts (Somehow (λ met. Says (Explains script.now starts) met.sink)) result }
+{
+    match refusal_for(rt, None, script, &starts, EXPLAIN_USAGE, false) {
+        Some(status) => status,
+        None => explain_file(rt, script, starts),
     }
 }
 

@@ -2,9 +2,11 @@
 ghost use Rattle.std.specs.Prelude.{◌≡◌, ◌≤◌, length, IfOk, IfErr};
 ghost use Rattle.ed_base.specs.Lines.{lines_of};
 ghost use Rattle.ed_rules.specs.LineBounds.{most_lines};
+ghost use Rattle.ed_main.specs.Chains.{AreLandmarked};
 ghost use Rattle.ed_main.specs.Starts.{AreStarts, HasBytes};
 ghost use Rattle.ed_main.specs.Wanted.{AreWanted, IsFromFile, IsWanted};
 
+use crate::chains::Chains;
 use crate::wanted::Wanted;
 use ed_base::{Bytes, count_lines};
 use ed_calls::{Starts, show_absent, show_too_long, show_unread};
@@ -28,12 +30,25 @@ where
     ensures from_file { IfErr result (λ _. IsFromFile wanted) }
 {
     match wanted {
-        Wanted::Stated(starts) => Ok(starts),
+        Wanted::Stated(starts, at) => Ok(landmarked(starts, at)),
         Wanted::Like {
             path,
             patterns,
             like,
         } => starts_like(rt, path, patterns, &like, is_quiet),
+    }
+}
+
+/// The start with these landmarks, where there are any.
+fn landmarked(starts: Starts, at: Chains) -> Starts
+    requires given { AreStarts starts }
+    ensures landmarked { AreLandmarked starts at result }
+    ensures given { AreStarts result }
+{
+    if at.are_none() {
+        starts
+    } else {
+        starts.with_landmarks(at.into_landmarks())
     }
 }
 

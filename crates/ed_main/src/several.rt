@@ -3,10 +3,12 @@ ghost use Rattle.std.specs.Prelude.{◌≡◌, ◌≤◌, ℕ, length};
 ghost use Rattle.ed_calls.specs.Judging.{IsJudgement};
 ghost use Rattle.ed_main.specs.Starts.{AreStarts};
 ghost use Rattle.ed_main.specs.Several as meaning;
-ghost use Rattle.ed_main.specs.Several.{AreJudged, IsOutcome, Judges};
+ghost use Rattle.ed_main.specs.Several.{AreJudged, IsJudged, IsOutcome, Judges};
 
 use crate::inputs::{Unread, read_at, status_of_read};
+use crate::letters::refusal_for;
 use crate::paths::Paths;
+use crate::stderr::usage::VOUCH_USAGE;
 use ed_base::{Bytes, Fault};
 use ed_calls::{Aside, Detail, Starts, judge_text, show_unjudged};
 use std::alloc::AllocError;
@@ -98,7 +100,7 @@ where
     R: Eprint + AllocGlobal,
     requires given { AreStarts starts.now }
     ensures status { result ≤ 4 }
-    ensures judged { IsJudgement script.now starts.now result }
+    ensures judged { IsJudged script.now starts.now result }
 {
     match starts.try_copy() {
         Ok(starts) => judge_bytes(rt, Some(name), script, starts, detail),
@@ -108,6 +110,27 @@ where
 
 /// Judges the script of these bytes, and tells a person why it isn't vouched for: under its name, where it has one.
 fn judge_bytes<R>(rt: &R, name: Option<&Bytes>, script: &[u8], starts: Starts, detail: Detail) -> u8
+where
+    R: Eprint + AllocGlobal,
+    requires given { AreStarts starts }
+    ensures status { result ≤ 4 }
+    ensures judged { IsJudged script.now starts result }
+{
+    let is_quiet = detail == Detail::Nothing;
+    match refusal_for(rt, name, script, &starts, VOUCH_USAGE, is_quiet) {
+        Some(status) => status,
+        None => judge_lettered(rt, name, script, starts, detail),
+    }
+}
+
+/// The same of a script that leaves letters for the landmarks that are given.
+fn judge_lettered<R>(
+    rt: &R,
+    name: Option<&Bytes>,
+    script: &[u8],
+    starts: Starts,
+    detail: Detail,
+) -> u8
 where
     R: Eprint + AllocGlobal,
     requires given { AreStarts starts }

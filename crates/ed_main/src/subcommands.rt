@@ -36,6 +36,7 @@ fn edit<'a>(alloc: Global) -> Result<Command<'a>, AllocError>
         vec![in alloc;
             vouched(alloc),
             like(alloc),
+            at(alloc),
             whole(alloc),
             rehearsed(alloc),
             silent(alloc),
@@ -63,6 +64,7 @@ fn vouch<'a>(alloc: Global) -> Result<Command<'a>, AllocError>
             quiet(alloc),
             patterns(alloc),
             has(alloc),
+            at(alloc),
             scripts(alloc),
             file(alloc, "The file that the certificate is for"),
         ]?,
@@ -84,6 +86,7 @@ fn explain<'a>(alloc: Global) -> Result<Command<'a>, AllocError>
             max(alloc),
             patterns(alloc),
             has(alloc),
+            at(alloc),
             script(alloc),
             notes(alloc),
         ]?,
@@ -305,6 +308,17 @@ fn has<'a>(alloc: Global) -> Arg<'a>
         .action(ArgAction::Append)
         .value_name("RE")
         .help("A pattern that some line of the file matches, as run tests; may come more than once")
+}
+
+fn at<'a>(alloc: Global) -> Arg<'a>
+    ensures value { rule_of result ≡ meaning.at }
+    ensures local { result.global ≡ false }
+{
+    Arg::new(alloc, "at")
+        .long("at")
+        .action(ArgAction::Append)
+        .value_name("CHAIN")
+        .help("Lines that the file has, as '/^Port/ & /22/', as run tests; may come more than once")
 }
 
 fn notes<'a>(alloc: Global) -> Arg<'a>

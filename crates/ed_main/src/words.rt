@@ -2,9 +2,10 @@
 ghost use Rattle.std.specs.Prelude.{◌≡◌, ◌≢◌, Some, None, map, string_bytes, IfOk, IfErr};
 ghost use Rattle.clap.specs.Words.{found_of, rows_of, subcommand_rows_of};
 ghost use Rattle.ed_main.specs.Words as meaning;
-ghost use Rattle.ed_main.specs.Words.{IsAsked, MayAsk, OnlyAsk, job_of, job_named};
+ghost use Rattle.ed_main.specs.Words.{AreHadBy, AreHadIn, IsAsked, MayAsk, MayBeHad, OnlyAsk, job_of, job_named};
 ghost use Rattle.ed_main.specs.Job.{IsGiven};
 
+mod editing;
 mod explaining;
 mod several;
 mod starts;
@@ -12,19 +13,20 @@ mod texts;
 
 use crate::job::Job;
 use crate::stderr::usage::{
-    CHECK_USAGE, EDIT_USAGE, FITS_USAGE, LIKE_UNVOUCHED, NO_CERTIFICATE, NO_FILE, NO_SCRIPT,
-    RUN_USAGE, USAGE, VOUCH_USAGE, refused,
+    CHECK_USAGE, FITS_USAGE, NO_CERTIFICATE, NO_FILE, NO_SCRIPT, RUN_USAGE, USAGE, VOUCH_USAGE,
+    refused,
 };
 use crate::subcommands::program;
 use crate::writing::Writing;
 use clap::ArgMatches;
 use ed_base::Bytes;
 use ed_syntax::Options;
+use editing::edit_job;
 use explaining::explain_job;
 use several::{are_paths, vouching};
-use starts::{judged_if, wanted_in, wrong_proposal};
-use std::alloc::{AllocError, Global};
-use texts::{bytes_of, is_given, is_path, is_prompt, may_propose, text_of};
+use starts::wanted_in;
+use std::alloc::{AllocError, AllocFailed, Global};
+use texts::{bytes_of, is_given, is_path, text_of};
 use thiserror::Error;
 
 /// Why no job was read.
@@ -51,6 +53,16 @@ impl From<AllocError> for WordsFault {
     }
 }
 
+impl<T: Drop> From<AllocFailed<T>> for WordsFault {
+    ghost use Rattle.ed_main.specs.declared.words.WordsFault.TheVariants.{Memory};
+
+    ghost from_gives = { λ _ fault. fault ≡ Memory };
+
+    fn from(_refusal: AllocFailed<T>) -> WordsFault {
+        WordsFault::Memory
+    }
+}
+
 impl WordsFault {
     /// What is wrong with the words, and how the program is used.
     pub fn of(alloc: Global, wrong: &str, usage: &str) -> WordsFault
@@ -66,7 +78,9 @@ impl WordsFault {
 /// The job that these words give, of which the first is the program's own name.
 pub fn read_words(alloc: Global, words: &[&str]) -> Result<Job, WordsFault>
     ensures value { IfOk result (λ job. job_of (map (λ w. w.now) words.entry.now) ≡ Some job) }
-    ensures only_if_refused { IfErr result (λ fault. fault ≢ WordsFault.Memory →
+
+    // Words that give a job are refused only where they ask for landmarks that no file has, or by texts that spell none.
+    ensures only_if_refused { IfErr result (λ fault. fault ≢ WordsFault.Memory → MayBeHad (map (λ w. w.now) words.entry.now) →
         job_of (map (λ w. w.now) words.entry.now) ≡ None) }
 
     // Help or the version is shown just where the words ask for it.
@@ -85,7 +99,7 @@ pub fn read_words(alloc: Global, words: &[&str]) -> Result<Job, WordsFault>
 /// The job that these words give, as `read_words` reads them.
 pub fn job_of_words(alloc: Global, words: &[String]) -> Result<Job, WordsFault>
     ensures value { IfOk result (λ job. job_of (map (λ word. string_bytes word) words.now) ≡ Some job) }
-    ensures only_if_refused { IfErr result (λ fault. fault ≢ WordsFault.Memory →
+    ensures only_if_refused { IfErr result (λ fault. fault ≢ WordsFault.Memory → MayBeHad (map (λ word. string_bytes word) words.now) →
         job_of (map (λ word. string_bytes word) words.now) ≡ None) }
     ensures asked { IfErr result (λ fault. IsAsked fault → MayAsk (map (λ word. string_bytes word) words.now)) }
     ensures shown { IfErr result (λ fault. fault ≢ WordsFault.Memory →
@@ -101,7 +115,7 @@ pub fn job_of_words(alloc: Global, words: &[String]) -> Result<Job, WordsFault>
 
 fn job_of_matches(alloc: Global, matches: &ArgMatches<'_>) -> Result<Job, WordsFault>
     ensures value { IfOk result (λ job. job_named (subcommand_rows_of matches.now) ≡ Some job) }
-    ensures only_if_refused { IfErr result (λ fault. fault ≢ WordsFault.Memory →
+    ensures only_if_refused { IfErr result (λ fault. fault ≢ WordsFault.Memory → AreHadBy (subcommand_rows_of matches.now) →
         job_named (subcommand_rows_of matches.now) ≡ None) }
     ensures unasked { IfErr result (λ fault. ¬ IsAsked fault) }
     ensures given { IfOk result IsGiven }
@@ -115,7 +129,7 @@ fn job_of_matches(alloc: Global, matches: &ArgMatches<'_>) -> Result<Job, WordsF
 fn job_by_name(alloc: Global, name: &str, given: &ArgMatches<'_>) -> Result<Job, WordsFault>
     ensures value { IfOk result (λ job. meaning.job_by_name name.now (rows_of (found_of given.now)) ≡ Some job) }
     ensures only_if_refused { IfErr result (λ fault. fault ≢ WordsFault.Memory →
-        meaning.job_by_name name.now (rows_of (found_of given.now)) ≡ None) }
+        AreHadIn (rows_of (found_of given.now)) → meaning.job_by_name name.now (rows_of (found_of given.now)) ≡ None) }
     ensures unasked { IfErr result (λ fault. ¬ IsAsked fault) }
     ensures given { IfOk result IsGiven }
 {
@@ -130,49 +144,6 @@ fn job_by_name(alloc: Global, name: &str, given: &ArgMatches<'_>) -> Result<Job,
     }
 }
 
-fn edit_job(alloc: Global, given: &ArgMatches<'_>) -> Result<Job, WordsFault>
-    ensures value { IfOk result (λ job. meaning.edit_job (rows_of (found_of given.now)) ≡ Some job) }
-    ensures only_if_refused { IfErr result (λ fault. fault ≢ WordsFault.Memory →
-        meaning.edit_job (rows_of (found_of given.now)) ≡ None) }
-    ensures unasked { IfErr result (λ fault. ¬ IsAsked fault) }
-    ensures given { IfOk result IsGiven }
-{
-    let prompt = text_of(given, "prompt");
-    let path = text_of(given, "file");
-    let script = text_of(given, "script");
-    let vouched = is_given(text_of(given, "vouched"));
-    let like = text_of(given, "like");
-    if !is_prompt(prompt) {
-        let wrong = "error: a prompt that begins with a hyphen";
-        return Err(WordsFault::of(alloc, wrong, EDIT_USAGE));
-    }
-    if !is_path(path) {
-        return Err(WordsFault::of(alloc, NO_FILE, EDIT_USAGE));
-    }
-    if !is_path(script) {
-        return Err(WordsFault::of(alloc, NO_SCRIPT, EDIT_USAGE));
-    }
-    if !may_propose(vouched, path, like) {
-        return Err(WordsFault::of(
-            alloc,
-            wrong_proposal(vouched, LIKE_UNVOUCHED, path),
-            EDIT_USAGE,
-        ));
-    }
-    let judged = judged_if(alloc, vouched, path, like)?;
-    let options = Options {
-        silent: is_given(text_of(given, "silent")),
-        prompt: bytes_of(alloc, prompt)?,
-        path: bytes_of(alloc, path)?,
-    };
-    Ok(Job::Edit {
-        options,
-        script: bytes_of(alloc, script)?,
-        writing: writing_in(given),
-        judged,
-    })
-}
-
 /// When the writes of a run are to be made.
 fn writing_in(given: &ArgMatches<'_>) -> Writing
     ensures value { result ≡ meaning.writing_in (rows_of (found_of given.now)) }
@@ -184,7 +155,7 @@ fn writing_in(given: &ArgMatches<'_>) -> Writing
 
 fn vouch_job(alloc: Global, given: &ArgMatches<'_>) -> Result<Job, WordsFault>
     ensures value { IfOk result (λ job. meaning.vouch_job (rows_of (found_of given.now)) ≡ Some job) }
-    ensures only_if_refused { IfErr result (λ fault. fault ≢ WordsFault.Memory →
+    ensures only_if_refused { IfErr result (λ fault. fault ≢ WordsFault.Memory → AreHadIn (rows_of (found_of given.now)) →
         meaning.vouch_job (rows_of (found_of given.now)) ≡ None) }
     ensures unasked { IfErr result (λ fault. ¬ IsAsked fault) }
     ensures given { IfOk result IsGiven }
@@ -198,7 +169,7 @@ fn vouch_job(alloc: Global, given: &ArgMatches<'_>) -> Result<Job, WordsFault>
 /// The job of `vouch` with these scripts.
 fn vouch_job_of(alloc: Global, given: &ArgMatches<'_>, scripts: &[&str]) -> Result<Job, WordsFault>
     ensures value { IfOk result (λ job. meaning.vouch_job_of (rows_of (found_of given.now)) (map (λ text. text.now) scripts.now) ≡ Some job) }
-    ensures only_if_refused { IfErr result (λ fault. fault ≢ WordsFault.Memory →
+    ensures only_if_refused { IfErr result (λ fault. fault ≢ WordsFault.Memory → AreHadIn (rows_of (found_of given.now)) →
         meaning.vouch_job_of (rows_of (found_of given.now)) (map (λ text. text.now) scripts.now) ≡ None) }
     ensures unasked { IfErr result (λ fault. ¬ IsAsked fault) }
     ensures given { IfOk result IsGiven }

@@ -177,8 +177,8 @@ static ROWS: [Row; 22] = [
     Row { beginning: Beginning::CurrentMatches, script: b"/B/p\n", failing: None, current: None },
     Row { beginning: Beginning::CurrentMatches, script: b"1,/B/p\n", failing: None, current: None },
     Row { beginning: Beginning::CurrentMatches, script: b"1;/B/p\n", failing: Some((1, Fault::NoMatch)), current: None },
-    // After a command nothing is known.
-    Row { beginning: Beginning::Known, script: b"/A/p\n/B/p\n", failing: Some((2, Fault::NoMatch)), current: Some((b'a', 0)) },
+    // What is known of other lines stays after a command that only prints.
+    Row { beginning: Beginning::Known, script: b"/A/p\n/B/p\n", failing: None, current: Some((b'b', 0)) },
 ];
 
 #[rattlefmt::skip]

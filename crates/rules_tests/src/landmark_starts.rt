@@ -41,6 +41,9 @@ const BLOCK: &[u8] = b"/A/;/B/d\nQ\n";
 /// A script that names z.
 const NAMING: &[u8] = b"/A/;/B/kz\nQ\n";
 
+/// A line that is a period.
+const PERIOD: &[u8] = b"1c\n..\n.\ns/.//\nQ\n";
+
 /// A block's two lines.
 const ENDS: &[&[u8]] = &[b"/A/; /B/"];
 
@@ -52,11 +55,14 @@ const FROM_1_TO_26: &[u8] =
 const ALL_LETTERS: &[u8] = b"zyxwvutsrqponmlkjihgfedcba";
 
 #[rattlefmt::skip]
-static ROWS: [Row; 13] = [
+static ROWS: [Row; 15] = [
     Row { script: BLOCK, stated: ENDS, known: ENDS, letters: b"zy", version: Version::Three, verdict: ACCEPTED },
     Row { script: BLOCK, stated: ENDS, known: ENDS, letters: b"zy", version: Version::Two, verdict: refused!(1) },
     Row { script: BLOCK, stated: NONE, known: ENDS, letters: b"zy", version: Version::Three, verdict: refused!(1) },
     Row { script: BLOCK, stated: NONE, known: NONE, letters: b"", version: Version::Three, verdict: None },
+    // What an entered line matches is known of the patterns of `s` too.
+    Row { script: PERIOD, stated: &[b"1"], known: &[b"1"], letters: b"z", version: Version::Three, verdict: ACCEPTED },
+    Row { script: PERIOD, stated: NONE, known: NONE, letters: b"", version: Version::Two, verdict: None },
     // No other letters.
     Row { script: BLOCK, stated: ENDS, known: ENDS, letters: b"yz", version: Version::Three, verdict: refused!(1) },
     Row { script: BLOCK, stated: ENDS, known: ENDS, letters: b"yx", version: Version::Three, verdict: refused!(1) },
@@ -126,7 +132,12 @@ fn note(
     certificate: &mut Certificate,
 ) -> Result<bool, AllocError> {
     let mut left = state.try_copy()?;
-    let watch = Watch::of(script, &Texts::none(alloc))?;
+    let has = Texts::none(alloc);
+    let watch = if state.follows {
+        Watch::of_lines(script, &has)?
+    } else {
+        Watch::of(script, &has)?
+    };
     add_notes(
         script.commands.as_slice(),
         state,

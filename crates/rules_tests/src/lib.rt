@@ -14,11 +14,15 @@ mod collecting;
 #[cfg(test)]
 mod fact_texts;
 #[cfg(test)]
+mod facts_after;
+#[cfg(test)]
 mod followed_lines;
 #[cfg(test)]
 mod globals;
 #[cfg(test)]
 mod landmark_starts;
+#[cfg(test)]
+mod landmarking;
 #[cfg(test)]
 mod like;
 #[cfg(test)]

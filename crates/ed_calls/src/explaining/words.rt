@@ -1,9 +1,8 @@
 //! What is known before a command, and the command, in the words of a person. No clause speaks of them.
 
 use crate::known::{Change, Known};
-use crate::stderr::shown::{escaped, shown};
+use crate::stderr::command_line::{between, first_line, front};
 use cert_check::Place;
-use ed_base::next_line;
 use ed_rules::LineBounds;
 use ed_syntax::{Span, list_places};
 use std::alloc::{AllocError, Global};
@@ -94,7 +93,7 @@ fn command_at(
     match spans.get(place.command.saturating_sub(1)) {
         Some(span) => match place.inner {
             Some(inner) => listed_at(alloc, between(script, *span), inner),
-            None => front(alloc, first_line(between(script, *span))),
+            None => front(alloc, first_line(script, *span)),
         },
         None => Ok(String::new(alloc)),
     }
@@ -104,33 +103,7 @@ fn command_at(
 fn listed_at(alloc: Global, command: &[u8], inner: usize) -> Result<String, AllocError> {
     let spans = list_places(alloc, command)?;
     match spans.get(inner.saturating_sub(1)) {
-        Some(span) => front(alloc, first_line(between(command, *span))),
+        Some(span) => front(alloc, first_line(command, *span)),
         None => Ok(String::new(alloc)),
     }
-}
-
-/// The bytes of a span.
-fn between(bytes: &[u8], span: Span) -> &[u8] {
-    bytes.get(span.low..span.high).unwrap_or(bytes)
-}
-
-/// The first line of a command, without its newline.
-fn first_line(command: &[u8]) -> &[u8] {
-    match next_line(command) {
-        Some((line, _rest)) => line,
-        None => command,
-    }
-}
-
-/// As much of a line as is shown. Bytes that would end it, or aren't text, are escaped.
-fn front(alloc: Global, line: &[u8]) -> Result<String, AllocError> {
-    match str::from_utf8(line) {
-        Ok(text) if !text.chars().any(is_strange) => shown(alloc, text),
-        _ => escaped(alloc, line),
-    }
-}
-
-/// Whether a character is none that a line shows.
-fn is_strange(character: char) -> bool {
-    character.is_control() && character != '\t'
 }

@@ -1,11 +1,14 @@
 //! What a person is told of a job beside its output. No clause speaks of that.
 ghost use Rattle.hints.specs.Passing.{IsAllowed};
 
+use crate::landmarked::TooFewLetters;
 use crate::placed::Missed;
+use crate::starts::Starts;
 use crate::stderr::command_line::quoted;
 use crate::stderr::file_name::{shell_option, shell_word, start_name};
 use crate::stderr::found::{found, sought};
 use crate::stderr::hinted::{hinted, unusable};
+use crate::stderr::letters::too_few;
 use crate::stderr::missed::landmark_missed;
 use crate::stderr::stopped::{stopped, stopped_in_list};
 use crate::stderr::unread::unread;
@@ -16,6 +19,7 @@ use ed_base::{Bytes, Fault, count_lines};
 use ed_session::Session;
 use ed_syntax::{Answer, Ending, Script};
 use hints::{Said, ToldLine};
+use landmarks::LandmarkChain;
 use line_store::LineStore;
 use std::alloc::{AllocError, Global};
 
@@ -171,6 +175,11 @@ impl<'a> Aside<'a> {
         self.say(unmatched(self.alloc, path, pattern.as_slice()));
     }
 
+    /// The script leaves too few letters for the landmarks that are given.
+    pub fn too_few_letters(&mut self, starts: &Starts, few: TooFewLetters) {
+        self.say(too_few(self.alloc, starts.landmarks(), few));
+    }
+
     /// The start doesn't have the landmarks of a chain that the certificate states.
     pub(crate) fn missed(&mut self, path: &Option<Bytes>, missed: &Missed<'_>) {
         self.say(landmark_missed(self.alloc, path, missed));
@@ -198,10 +207,7 @@ fn refused(
     if place.command == 0 {
         told.more.push(Said::Error(String::from_str(alloc, other_script(certificate.version))?))?;
     }
-    // No call makes one with landmarks yet.
-    if certificate.version != Version::Three {
-        told.more.push(Said::Hint(again_text(alloc, certificate)?))?;
-    }
+    told.more.push(Said::Hint(again_text(alloc, certificate)?))?;
     Ok(told)
 }
 
@@ -219,40 +225,71 @@ fn other_script(version: Version) -> &'static str {
 
 /// How a certificate for the same starts is made.
 fn again_text(alloc: Global, certificate: &Certificate) -> Result<String, AllocError> {
-    let min = certificate.min;
-    let max = match certificate.max {
-        Some(max) => format!(in alloc; "{max}")?,
-        None => String::from_str(alloc, "any")?,
-    };
-    let max = max.as_str();
+    let bounds = bound_words(alloc, certificate)?;
+    let bounds = bounds.as_str();
     let patterns = pattern_words(alloc, certificate)?;
     let patterns = patterns.as_str();
     match &certificate.path {
         Some(path) => {
             let word = shell_word(alloc, path.as_slice())?;
             let word = word.as_str();
-            Ok(format!(in alloc;
-                "vouch again: edv vouch --min {min} --max {max}{patterns} {word}"
-            )?)
+            Ok(format!(in alloc; "vouch again: edv vouch {bounds}{patterns} {word}")?)
         }
-        None => Ok(format!(in alloc; "vouch again: edv vouch --min {min} --max {max}{patterns}")?),
+        None => Ok(format!(in alloc; "vouch again: edv vouch {bounds}{patterns}")?),
     }
 }
 
-/// The words by which a certificate is made that states the same patterns, each after a blank.
+/// The words by which a certificate is made that has the same bounds. One that follows single lines without landmarks is only found, so the
+/// fewest lines are to be found too.
+fn bound_words(alloc: Global, certificate: &Certificate) -> Result<String, AllocError> {
+    let min = certificate.min;
+    let max = match certificate.max {
+        Some(max) => format!(in alloc; "{max}")?,
+        None => String::from_str(alloc, "any")?,
+    };
+    let max = max.as_str();
+    let is_found = certificate.version == Version::Three
+        && certificate.landmarks.as_slice().is_empty();
+    match is_found {
+        true => Ok(format!(in alloc; "--max {max}")?),
+        false => Ok(format!(in alloc; "--min {min} --max {max}")?),
+    }
+}
+
+/// The words by which a certificate is made that states the same patterns and landmarks, each after a blank.
 fn pattern_words(alloc: Global, certificate: &Certificate) -> Result<String, AllocError> {
     let mut words = String::new(alloc);
-    if certificate.version == Version::Two {
-        let patterns = certificate.has.members();
-        if patterns.is_empty() {
-            words.push_str(" --patterns")?;
-        }
-        for pattern in patterns {
-            words.push_str(" --has")?;
-            words.push_str(shell_option(alloc, pattern.as_slice())?.as_str())?;
-        }
+    let patterns = match certificate.version {
+        Version::One => return Ok(words),
+        Version::Two | Version::Three => certificate.has.members(),
+    };
+    for pattern in patterns {
+        push_option(alloc, &mut words, "--has", pattern.as_slice())?;
+    }
+    let chains: &[LandmarkChain] = match certificate.version {
+        Version::One | Version::Two => &[],
+        Version::Three => certificate.landmarks.as_slice(),
+    };
+    for chain in chains {
+        push_option(alloc, &mut words, "--at", chain.text().as_slice())?;
+    }
+    if patterns.is_empty() && chains.is_empty() {
+        words.push_str(" --patterns")?;
     }
     Ok(words)
+}
+
+/// Appends an option with its value, after a blank.
+fn push_option(
+    alloc: Global,
+    words: &mut String,
+    option: &str,
+    value: &[u8],
+) -> Result<(), AllocError> {
+    words.push_str(" ")?;
+    words.push_str(option)?;
+    words.push_str(shell_option(alloc, value)?.as_str())?;
+    Ok(())
 }
 
 fn other_path(

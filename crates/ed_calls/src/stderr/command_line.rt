@@ -81,7 +81,7 @@ fn listed_at(
 }
 
 /// The bytes of a span, or all where there are none.
-fn between(bytes: &[u8], span: Span) -> &[u8] {
+pub fn between(bytes: &[u8], span: Span) -> &[u8] {
     bytes.get(span.low..span.high).unwrap_or(bytes)
 }
 
@@ -96,12 +96,17 @@ pub fn first_line(bytes: &[u8], span: Span) -> &[u8] {
 
 /// The front of a line between backquotes. Bytes that would end it, or aren't text, are escaped.
 pub fn quoted(alloc: Global, line: &[u8]) -> Result<String, AllocError> {
-    let front = match str::from_utf8(line) {
-        Ok(text) if !text.chars().any(is_strange) => shown(alloc, text)?,
-        _ => escaped(alloc, line)?,
-    };
+    let front = front(alloc, line)?;
     let front = front.as_str();
     Ok(format!(in alloc; "`{front}`")?)
+}
+
+/// As much of a line as is shown. Bytes that would end it, or aren't text, are escaped.
+pub fn front(alloc: Global, line: &[u8]) -> Result<String, AllocError> {
+    match str::from_utf8(line) {
+        Ok(text) if !text.chars().any(is_strange) => shown(alloc, text),
+        _ => escaped(alloc, line),
+    }
 }
 
 /// Whether a character is none that a line shows.

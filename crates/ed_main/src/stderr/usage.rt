@@ -10,22 +10,22 @@ use std::alloc::{AllocError, Global};
 
 /// How the program is used.
 pub const USAGE: &str = "\
-usage: edv edit [--vouched] [--like FILE] [--whole] [-n] [-s] [-p STRING] [-f SCRIPT] [FILE] <SCRIPT
-       edv vouch [--like FILE] [--min N] [--max M] [--all] [-q] [--patterns] [--has RE] [-f SCRIPT] [FILE] <SCRIPT
-       edv explain [--like FILE] [--min N] [--max M] [--patterns] [--has RE] [-f SCRIPT] [CERT] <SCRIPT
+usage: edv edit [--vouched] [--like FILE] [--at CHAIN] [--whole] [-n] [-s] [-p STRING] [-f SCRIPT] [FILE] <SCRIPT
+       edv vouch [--like FILE] [--min N] [--max M] [--all] [-q] [--patterns] [--has RE] [--at CHAIN] [-f SCRIPT] [FILE] <SCRIPT
+       edv explain [--like FILE] [--min N] [--max M] [--patterns] [--has RE] [--at CHAIN] [-f SCRIPT] [CERT] <SCRIPT
        edv check [-f SCRIPT] CERT <SCRIPT
        edv run [--whole] [-n] [-s] [-f SCRIPT] CERT [FILE] <SCRIPT
        edv fits CERT [FILE]
 ";
 
 pub const EDIT_USAGE: &str =
-    "usage: edv edit [--vouched] [--like FILE] [--whole] [-n] [-s] [-p STRING] [-f SCRIPT] [FILE] <SCRIPT\n";
+    "usage: edv edit [--vouched] [--like FILE] [--at CHAIN] [--whole] [-n] [-s] [-p STRING] [-f SCRIPT] [FILE] <SCRIPT\n";
 
 pub const VOUCH_USAGE: &str =
-    "usage: edv vouch [--like FILE] [--min N] [--max M] [--all] [-q] [--patterns] [--has RE] [-f SCRIPT] [FILE] <SCRIPT\n";
+    "usage: edv vouch [--like FILE] [--min N] [--max M] [--all] [-q] [--patterns] [--has RE] [--at CHAIN] [-f SCRIPT] [FILE] <SCRIPT\n";
 
 pub const EXPLAIN_USAGE: &str =
-    "usage: edv explain [--like FILE] [--min N] [--max M] [--patterns] [--has RE] [-f SCRIPT] [CERT] <SCRIPT\n";
+    "usage: edv explain [--like FILE] [--min N] [--max M] [--patterns] [--has RE] [--at CHAIN] [-f SCRIPT] [CERT] <SCRIPT\n";
 
 pub const CHECK_USAGE: &str = "usage: edv check [-f SCRIPT] CERT <SCRIPT\n";
 
@@ -41,11 +41,17 @@ pub const NO_CERTIFICATE: &str = "error: a certificate without a name, or named 
 
 pub const BESIDE_CERTIFICATE: &str = "error: a start beside a certificate, which states its own";
 
-pub const LIKE_BESIDE: &str = "error: --like beside --min, --max or --has";
+pub const LIKE_BESIDE: &str = "error: --like beside --min, --max, --has or --at";
+
+pub const LIKE_BESIDE_AT: &str = "error: --like beside --at";
 
 pub const LIKE_UNVOUCHED: &str = "error: --like without --vouched";
 
 pub const LIKE_ALONE: &str = "error: --like without the file that is edited";
+
+pub const AT_UNVOUCHED: &str = "error: --at without --vouched";
+
+pub const AT_ALONE: &str = "error: --at without the file whose lines it names";
 
 pub const NO_MIN: &str = "error: --min isn't a number of lines up to 10^12";
 

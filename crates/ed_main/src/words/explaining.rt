@@ -2,7 +2,7 @@
 ghost use Rattle.std.specs.Prelude.{◌≡◌, ◌≢◌, Some, None, IfOk, IfErr};
 ghost use Rattle.clap.specs.Words.{found_of, rows_of};
 ghost use Rattle.ed_main.specs.Words as meaning;
-ghost use Rattle.ed_main.specs.Words.{IsAsked};
+ghost use Rattle.ed_main.specs.Words.{AreHadIn, IsAsked};
 ghost use Rattle.ed_main.specs.Job.{IsGiven};
 
 use crate::job::Job;
@@ -20,7 +20,7 @@ const ANY_FILE: &str = "FILE";
 /// The job of `explain`.
 pub fn explain_job(alloc: Global, given: &ArgMatches<'_>) -> Result<Job, WordsFault>
     ensures value { IfOk result (λ job. meaning.explain_job (rows_of (found_of given.now)) ≡ Some job) }
-    ensures only_if_refused { IfErr result (λ fault. fault ≢ WordsFault.Memory →
+    ensures only_if_refused { IfErr result (λ fault. fault ≢ WordsFault.Memory → AreHadIn (rows_of (found_of given.now)) →
         meaning.explain_job (rows_of (found_of given.now)) ≡ None) }
     ensures unasked { IfErr result (λ fault. ¬ IsAsked fault) }
     ensures given { IfOk result IsGiven }
@@ -37,7 +37,7 @@ pub fn explain_job(alloc: Global, given: &ArgMatches<'_>) -> Result<Job, WordsFa
 /// The job with the certificate of this name.
 fn explain_by(alloc: Global, given: &ArgMatches<'_>, path: &str) -> Result<Job, WordsFault>
     ensures value { IfOk result (λ job. meaning.explaining_by path.now (rows_of (found_of given.now)) ≡ Some job) }
-    ensures only_if_refused { IfErr result (λ fault. fault ≢ WordsFault.Memory →
+    ensures only_if_refused { IfErr result (λ fault. fault ≢ WordsFault.Memory → AreHadIn (rows_of (found_of given.now)) →
         meaning.explaining_by path.now (rows_of (found_of given.now)) ≡ None) }
     ensures unasked { IfErr result (λ fault. ¬ IsAsked fault) }
     ensures given { IfOk result IsGiven }
@@ -57,7 +57,7 @@ fn explain_by(alloc: Global, given: &ArgMatches<'_>, path: &str) -> Result<Job, 
 /// The job with the start that is asked for.
 fn explain_over(alloc: Global, given: &ArgMatches<'_>) -> Result<Job, WordsFault>
     ensures value { IfOk result (λ job. meaning.explaining None (rows_of (found_of given.now)) ≡ Some job) }
-    ensures only_if_refused { IfErr result (λ fault. fault ≢ WordsFault.Memory →
+    ensures only_if_refused { IfErr result (λ fault. fault ≢ WordsFault.Memory → AreHadIn (rows_of (found_of given.now)) →
         meaning.explaining None (rows_of (found_of given.now)) ≡ None) }
     ensures unasked { IfErr result (λ fault. ¬ IsAsked fault) }
     ensures given { IfOk result IsGiven }

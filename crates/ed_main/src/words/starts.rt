@@ -1,24 +1,26 @@
-//! The starts that words ask for: bounds on the number of lines, and patterns, or a file that one is proposed from.
-ghost use Rattle.std.specs.Prelude.{◌≡◌, ◌≢◌, ◌≤◌, true, false, Some, None, if◌then◌else◌, codes, IfOk, IfErr, IfSome, option_map};
+//! The starts that words ask for: bounds on the number of lines, patterns and landmarks, or a file that one is proposed from.
+ghost use Rattle.std.specs.Prelude.{◌≡◌, ◌≢◌, ◌≤◌, true, false, Some, None, if◌then◌else◌, codes, map, IfOk, IfErr, IfSome, option_map};
 ghost use Rattle.clap.specs.Words.{found_of, rows_of};
 ghost use Rattle.ed_rules.specs.LineBounds.{is_few, most_lines};
+ghost use Rattle.ed_main.specs.Chains.{AreHad};
 ghost use Rattle.ed_main.specs.Words as meaning;
 ghost use Rattle.ed_main.specs.Wanted.{IsWanted};
-ghost use Rattle.ed_main.specs.Words.{IsAsked};
+ghost use Rattle.ed_main.specs.Words.{AreHadIn, IsAsked};
 
 use crate::any_start::any_start;
+use crate::chains::Chains;
 use crate::patterns::stated_of;
-use crate::stderr::usage::{LIKE_ALONE, LIKE_BESIDE, NO_FILE, NO_MAX, NO_MIN};
+use crate::stderr::usage::{AT_ALONE, LIKE_ALONE, LIKE_BESIDE, NO_FILE, NO_MAX, NO_MIN};
 use crate::wanted::Wanted;
 use crate::words::WordsFault;
-use crate::words::texts::{bytes_of, has_text, is_given, may_propose, text_of};
+use crate::words::texts::{bytes_of, has_text, is_given, may_have, may_propose, text_of};
 use analyser::Start;
 use clap::ArgMatches;
 use ed_base::Bytes;
 use ed_calls::Starts;
 use ed_rules::{LineBounds, Texts};
 use hints::Given;
-use std::alloc::{AllocError, Global};
+use std::alloc::Global;
 
 /// The start for the file at this path that is asked for: one that is stated, as far as it is, or one that is proposed from another file. What is
 /// wrong is shown with this usage.
@@ -31,6 +33,7 @@ pub fn wanted_in(
     requires named { meaning.is_path (option_map (λ text. text.now) path) ≡ true }
     ensures value { IfOk result (λ wanted. meaning.wanted_in (option_map (λ text. text.now) path.entry) (rows_of (found_of given.now)) ≡ Some wanted) }
     ensures only_if_refused { IfErr result (λ fault. fault ≢ WordsFault.Memory →
+        AreHadIn (rows_of (found_of given.now)) →
         meaning.wanted_in (option_map (λ text. text.now) path.entry) (rows_of (found_of given.now)) ≡ None) }
     ensures unasked { IfErr result (λ fault. ¬ IsAsked fault) }
     ensures given { IfOk result IsWanted }
@@ -91,6 +94,7 @@ fn stated_in(
     requires named { meaning.is_path (option_map (λ text. text.now) path) ≡ true }
     ensures value { IfOk result (λ wanted. meaning.stated_in (option_map (λ text. text.now) path.entry) (rows_of (found_of given.now)) ≡ Some wanted) }
     ensures only_if_refused { IfErr result (λ fault. fault ≢ WordsFault.Memory →
+        AreHadIn (rows_of (found_of given.now)) →
         meaning.stated_in (option_map (λ text. text.now) path.entry) (rows_of (found_of given.now)) ≡ None) }
     ensures unasked { IfErr result (λ fault. ¬ IsAsked fault) }
     ensures given { IfOk result IsWanted }
@@ -104,8 +108,11 @@ fn stated_in(
     if !are_in_order(least, most) {
         return Err(WordsFault::of(alloc, "error: --min is above --max", usage));
     }
-    let has = patterns_in(alloc, given, is_given(text_of(given, "patterns")), usage)?;
-    Ok(Wanted::Stated(starts_of(bytes_of(alloc, path)?, least, most, has)))
+    let asked = is_given(text_of(given, "patterns"));
+    let has = patterns_in(alloc, given, asked, usage)?;
+    let at = chains_in(alloc, path, given, most.unwrap_or(None), usage)?;
+    let file = bytes_of(alloc, path)?;
+    Ok(Wanted::Stated(starts_of(file, least, most, has), at))
 }
 
 /// The start of these bounds where both are given, and else what is given of the widest one.
@@ -143,41 +150,56 @@ fn starts_of(
     }
 }
 
-/// Whether a bound of the start is stated, or a pattern.
+/// Whether a bound of the start is stated, a pattern or a landmark.
 pub fn states_start(given: &ArgMatches<'_>) -> bool
     ensures value { result ≡ meaning.states_start (rows_of (found_of given.now)) }
 {
-    has_text(given, "min") || has_text(given, "max") || has_text(given, "has")
+    has_text(given, "min")
+        || has_text(given, "max")
+        || has_text(given, "has")
+        || has_text(given, "at")
 }
 
-/// The start over which `edit` judges a script on the file at this path, where it is asked to.
-pub fn judged_if(
+/// The chains that are given for the file at this path, which has so many lines at most. What is wrong is shown with this usage.
+fn chains_in(
     alloc: Global,
-    vouched: bool,
     path: Option<&str>,
-    like: Option<&str>,
-) -> Result<Option<Wanted>, AllocError>
-    ensures value { IfOk result (λ judged. judged ≡ meaning.judged_if vouched (option_map (λ text. text.now) path.entry) (option_map (λ text. text.now) like.entry)) }
+    given: &ArgMatches<'_>,
+    most: Option<u64>,
+    usage: &str,
+) -> Result<Chains, WordsFault>
+    requires few { IfSome most (λ lines. lines ≤ most_lines) }
+    ensures named { IfOk result (λ _. meaning.may_have (option_map (λ text. text.now) path.entry) (meaning.chains_in (rows_of (found_of given.now))) ≡ true) }
+    ensures value { IfOk result (λ chains. chains ≡ meaning.chains_in (rows_of (found_of given.now))) }
+    ensures only_if_refused { IfErr result (λ fault. fault ≢ WordsFault.Memory → AreHad most (meaning.chains_in (rows_of (found_of given.now))) →
+        meaning.may_have (option_map (λ text. text.now) path.entry) (meaning.chains_in (rows_of (found_of given.now))) ≡ false) }
+    ensures unasked { IfErr result (λ fault. ¬ IsAsked fault) }
 {
-    if !vouched {
-        return Ok(None);
+    match given.get_strs("at") {
+        Some(texts) => chains_for(alloc, path, texts, most, usage),
+        None => chains_for(alloc, path, &[], most, usage),
     }
-    Ok(Some(judged_over(alloc, path, like)?))
 }
 
-/// The start over which `edit --vouched` judges a script on the file at this path: any with it, or one that is proposed from another file.
-fn judged_over(alloc: Global, path: Option<&str>, like: Option<&str>) -> Result<Wanted, AllocError>
-    ensures value { IfOk result (λ judged. judged ≡ meaning.judged_over (option_map (λ text. text.now) path.entry) (option_map (λ text. text.now) like.entry)) }
+/// The chains that these texts spell, for the file at this path, which has so many lines at most. What is wrong is shown with this usage.
+fn chains_for(
+    alloc: Global,
+    path: Option<&str>,
+    texts: &[&str],
+    most: Option<u64>,
+    usage: &str,
+) -> Result<Chains, WordsFault>
+    requires few { IfSome most (λ lines. lines ≤ most_lines) }
+    ensures named { IfOk result (λ _. meaning.may_have (option_map (λ text. text.now) path.entry) (map (λ text. text.now) texts.now) ≡ true) }
+    ensures value { IfOk result (λ chains. chains ≡ map (λ text. text.now) texts.now) }
+    ensures only_if_refused { IfErr result (λ fault. fault ≢ WordsFault.Memory → AreHad most (map (λ text. text.now) texts.now) →
+        meaning.may_have (option_map (λ text. text.now) path.entry) (map (λ text. text.now) texts.now) ≡ false) }
+    ensures unasked { IfErr result (λ fault. ¬ IsAsked fault) }
 {
-    let path = bytes_of(alloc, path)?;
-    match like {
-        Some(like) => Ok(Wanted::Like {
-            path,
-            patterns: true,
-            like: Bytes::from_slice(alloc, like.as_bytes())?,
-        }),
-        None => Ok(Wanted::Stated(any_start(path, Some(Texts::none(alloc))))),
+    if !may_have(path, texts) {
+        return Err(WordsFault::of(alloc, AT_ALONE, usage));
     }
+    Chains::read(alloc, texts, most, usage)
 }
 
 /// The patterns that a start states, where they are asked for or given.

@@ -1,5 +1,5 @@
 //! What the text of an argument is: whether it may be a prompt or a name, and its bytes.
-ghost use Rattle.std.specs.Prelude.{◌≡◌, is_some, IfOk, option_map};
+ghost use Rattle.std.specs.Prelude.{◌≡◌, is_some, map, IfOk, option_map};
 ghost use Rattle.clap.specs.Words.{found_of, first_of, rows_of};
 ghost use Rattle.ed_main.specs.Words as meaning;
 
@@ -50,6 +50,26 @@ pub fn may_propose(sought: bool, path: Option<&str>, like: Option<&str>) -> bool
         (Some(_), Some(_)) => sought && is_path(like),
         (Some(_), None) => false,
         (None, _) => true,
+    }
+}
+
+/// Whether landmarks may be given of the file at this path, if some are: where there is one.
+pub fn may_have(path: Option<&str>, chains: &[&str]) -> bool
+    ensures value { result ≡ meaning.may_have (option_map (λ text. text.now) path.entry) (map (λ text. text.now) chains.now) }
+{
+    match chains {
+        [] => true,
+        _ => path.is_some(),
+    }
+}
+
+/// Whether these may be given of a start over which `edit` judges a script, if it is asked to: a file that it is proposed from, or landmarks.
+pub fn may_judge(vouched: bool, path: Option<&str>, like: Option<&str>, chains: &[&str]) -> bool
+    ensures value { result ≡ meaning.may_judge vouched (option_map (λ text. text.now) path.entry) (option_map (λ text. text.now) like.entry) (map (λ text. text.now) chains.now) }
+{
+    match chains {
+        [] => may_propose(vouched, path, like),
+        _ => vouched && path.is_some() && like.is_none(),
     }
 }
 

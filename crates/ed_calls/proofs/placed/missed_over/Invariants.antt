@@ -1,5 +1,5 @@
 -- The chains that were passed have their landmarks in the file: whether all have goes by those that are left.
-use Rattle.std.proofs.Common.{◌≡◌, ◌↔◌, drop}
+use Rattle.std.proofs.Common.{◌↔◌, drop}
 use Rattle.ed_base.specs.Lines.{lines_of}
 use Rattle.cert_check.specs.checker.Beginning.{landmarks_of}
 use Rattle.cert_check.specs.checker.Sound.{HaveLandmarks}

@@ -2,16 +2,17 @@ use Rattle.std.specs.Prelude.{ℕ}
 use Rattle.ed_calls.specs.declared.starts.Starts.{Starts}
 use Rattle.ed_calls.specs.Told.{Says}
 use Rattle.ed_calls.specs.Vouch.{Vouches}
+use Rattle.ed_main.specs.Letters.{WithLetters}
 use Rattle.ed_main.specs.Program.{Somehow}
 use Rattle.ed_main.proofs.StartLemmas.{unused, used}
 use Rattle.ed_main.proofs.program.vouch_wanted.Goals as goal
 
 pub returns-in-Ok-clause-came : goal.returns-in-Ok-clause-came
 returns-in-Ok-clause-came g c =
-    let Used : Starts → ℕ → Type 0 = λ starts. Somehow (λ met. Says (Vouches c.args.script.now starts) met.sink) in
-    used Used _ c.args.wanted c.in-Ok.starts c.in-Ok.ensures.wanted c.vouch_file.ensures.came
+    let Used : Starts → ℕ → Type 0 = λ starts. WithLetters c.args.script.now starts (Somehow (λ met. Says (Vouches c.args.script.now starts) met.sink)) in
+    used Used _ c.args.wanted c.in-Ok.starts c.in-Ok.ensures.wanted c.vouch_if_lettered.ensures.came
 
 pub returns-in-Err-clause-came : goal.returns-in-Err-clause-came
 returns-in-Err-clause-came g c =
-    let Used : Starts → ℕ → Type 0 = λ starts. Somehow (λ met. Says (Vouches c.args.script.now starts) met.sink) in
+    let Used : Starts → ℕ → Type 0 = λ starts. WithLetters c.args.script.now starts (Somehow (λ met. Says (Vouches c.args.script.now starts) met.sink)) in
     unused Used _ c.args.wanted c.in-Err.fault c.in-Err.ensures.from_file c.status_of_read.ensures.value

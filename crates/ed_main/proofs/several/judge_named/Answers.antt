@@ -1,6 +1,6 @@
 -- The copy of the starts is what they are.
 use Rattle.std.proofs.Common.{sym, subst}
-use Rattle.ed_calls.specs.Judging.{no_memory}
+use Rattle.ed_main.specs.Letters as meaning
 use Rattle.ed_main.specs.Starts.{AreStarts}
 use Rattle.ed_main.proofs.several.judge_named.Goals as goal
 
@@ -11,4 +11,4 @@ pub returns-in-Ok-clause-judged : goal.returns-in-Ok-clause-judged
 returns-in-Ok-clause-judged g c = rw c.in-Ok.ensures.value at c.judge_bytes.ensures.judged
 
 pub returns-in-Err-clause-judged : goal.returns-in-Err-clause-judged
-returns-in-Err-clause-judged g c = no_memory c.status.ensures.value
+returns-in-Err-clause-judged g c = meaning.refused (meaning.no_memory c.status.ensures.value)

@@ -1,5 +1,5 @@
 -- The script of the bytes was judged, or those in the files.
-use Rattle.std.proofs.Common.{ℕ, List, ap, length, subst}
+use Rattle.std.proofs.Common.{ℕ, List, length, subst}
 use Rattle.ed_main.specs.Several.{AreJudged}
 use Rattle.ed_main.proofs.JudgedScripts.{each_judged, input_judged}
 use Rattle.ed_main.proofs.several.judge_scripts.Goals as goal

@@ -14,15 +14,12 @@ subcommand-requires c =
         (
           c.like.ensures.local,
           (
-            c.whole.ensures.local,
+            c.at.ensures.local,
             (
-              c.rehearsed.ensures.local,
+              c.whole.ensures.local,
               (
-                c.silent.ensures.local,
-                (
-                  c.prompt.ensures.local,
-                  (c.script.ensures.local, (c.file.ensures.local, tt)),
-                ),
+                c.rehearsed.ensures.local,
+                (c.silent.ensures.local, (c.prompt.ensures.local, (c.script.ensures.local, (c.file.ensures.local, tt)))),
               ),
             ),
           ),
@@ -33,5 +30,6 @@ subcommand-requires c =
 pub returns-clause-value : goal.returns-clause-value
 returns-clause-value c =
     IfOk-weaker c.subcommand.result _ _ (λ command is. is ∙ ap (meaning.subcommand (codes "edit")) (ap (map rule_of) c.in_ok-vec.ensures.items
-    ∙ and_rules c.vouched.ensures.value (and_rules c.like.ensures.value (and_rules c.whole.ensures.value (and_rules c.rehearsed.ensures.value (and_rules
-    c.silent.ensures.value (and_rules c.prompt.ensures.value (and_rules c.script.ensures.value (and_rules c.file.ensures.value no_rules))))))))) c.subcommand.ensures.value
+    ∙ and_rules c.vouched.ensures.value (and_rules c.like.ensures.value (and_rules c.at.ensures.value (and_rules c.whole.ensures.value
+    (and_rules c.rehearsed.ensures.value (and_rules c.silent.ensures.value (and_rules c.prompt.ensures.value (and_rules
+    c.script.ensures.value (and_rules c.file.ensures.value no_rules)))))))))) c.subcommand.ensures.value

@@ -1,6 +1,6 @@
 -- What `clap` is told of `-f` by `vouch`: it is that of the others, and may come more than once.
 use Rattle.std.proofs.Common.{ap, Some}
-use Rattle.clap.specs.Words.{Rule, rule_of}
+use Rattle.clap.specs.Words.{Rule}
 use Rattle.clap.specs.declared.builder.action.ArgAction.TheVariants.{Append}
 use Rattle.ed_main.proofs.subcommands.scripts.Goals as goal
 

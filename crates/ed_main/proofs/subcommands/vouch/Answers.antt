@@ -9,12 +9,42 @@ use Rattle.ed_main.proofs.subcommands.vouch.Goals as goal
 pub subcommand-requires : goal.subcommand-requires
 subcommand-requires c =
     record {
-      local = all_local _ _ c.in_ok-vec.ensures.items (c.like.ensures.local, (c.min.ensures.local, (c.max.ensures.local, (c.all.ensures.local, (c.quiet.ensures.local, (c.patterns.ensures.local, (c.has.ensures.local, (c.scripts.ensures.local, (c.file.ensures.local, tt)))))))));
+      local = all_local _ _ c.in_ok-vec.ensures.items (
+        c.like.ensures.local,
+        (
+          c.min.ensures.local,
+          (
+            c.max.ensures.local,
+            (
+              c.all.ensures.local,
+              (
+                c.quiet.ensures.local,
+                (
+                  c.patterns.ensures.local,
+                  (
+                    c.has.ensures.local,
+                    (
+                      c.at.ensures.local,
+                      (
+                        c.scripts.ensures.local,
+                        (
+                          c.file.ensures.local,
+                          tt,
+                        ),
+                      ),
+                    ),
+                  ),
+                ),
+              ),
+            ),
+          ),
+        ),
+      );
     }
 
 pub returns-clause-value : goal.returns-clause-value
 returns-clause-value c =
     IfOk-weaker c.subcommand.result _ _ (λ command is. is ∙ ap (meaning.subcommand (codes "vouch")) (ap (map rule_of) c.in_ok-vec.ensures.items
-    ∙ and_rules c.like.ensures.value (and_rules c.min.ensures.value (and_rules c.max.ensures.value (and_rules c.all.ensures.value (and_rules c.quiet.ensures.value (and_rules
-    c.patterns.ensures.value (and_rules c.has.ensures.value (and_rules c.scripts.ensures.value (and_rules c.file.ensures.value
-    no_rules)))))))))) c.subcommand.ensures.value
+    ∙ and_rules c.like.ensures.value (and_rules c.min.ensures.value (and_rules c.max.ensures.value (and_rules c.all.ensures.value
+    (and_rules c.quiet.ensures.value (and_rules c.patterns.ensures.value (and_rules c.has.ensures.value (and_rules c.at.ensures.value
+    (and_rules c.scripts.ensures.value (and_rules c.file.ensures.value no_rules))))))))))) c.subcommand.ensures.value

@@ -1,9 +1,10 @@
 -- The words give just the job of the subcommand that `clap` found in them.
-use Rattle.std.proofs.Common.{◌≡◌, ◌∙◌, ℕ, List, map}
+use Rattle.std.proofs.Common.{◌≡◌, ◌∙◌, ℕ, List, map, subst, sym}
 use Rattle.std.proofs.lemmas.Result.{IfErr-weaker, IfOk-weaker}
-use Rattle.clap.specs.Words.{app_of, kind_of, subcommand_rows_of}
-use Rattle.ed_main.specs.Words.{job_of, job_named}
-use Rattle.ed_main.proofs.WordsLemmas.{asked_by, given_by, none_found, refused_by, request_by}
+use Rattle.clap.specs.Words.{app_of, kind_of, subcommand_of, subcommand_rows_of}
+use Rattle.ed_main.specs.Subcommands.{program}
+use Rattle.ed_main.specs.Words.{AreHadBy, job_of, job_named}
+use Rattle.ed_main.proofs.WordsLemmas.{asked_by, found_by, given_by, none_found, refused_by, request_by}
 use Rattle.ed_main.proofs.words.read_words.Goals as goal
 
 pub returns-in-Ok-clause-value : goal.returns-in-Ok-clause-value
@@ -18,12 +19,15 @@ returns-in-Ok-clause-only_if_refused c =
     let words : List (List ℕ) = map (λ w. w.now) c.args.words.now in
     let e : job_of words ≡ job_named (subcommand_rows_of c.in-Ok.matches) =
     given_by (app_of c.in_ok-program.field-0) words _ _ c.in_ok-program.ensures.value c.in-Ok.ensures.kinds c.in-Ok.ensures.matches in
-    IfErr-weaker c.job_of_matches.result _ _ (λ fault h differs. e ∙ h differs) c.job_of_matches.ensures.only_if_refused
+    let rows : subcommand_rows_of c.in-Ok.matches ≡ subcommand_of program words =
+    found_by (app_of c.in_ok-program.field-0) words _ _ c.in_ok-program.ensures.value c.in-Ok.ensures.matches in
+    IfErr-weaker c.job_of_matches.result _ _ (λ fault h differs had. e ∙ h differs (subst AreHadBy (sym rows) had)) c.job_of_matches.ensures.only_if_refused
 
 pub returns-in-Err-clause-only_if_refused : goal.returns-in-Err-clause-only_if_refused
 returns-in-Err-clause-only_if_refused c =
     let words : List (List ℕ) = map (λ w. w.now) c.args.words.now in
-    refused_by (app_of c.in_ok-program.field-0) words (kind_of c.in-Err.error) c.refused.result c.in_ok-program.ensures.value c.in-Err.ensures.kinds c.refused.ensures.memory
+    λ differs had. refused_by (app_of c.in_ok-program.field-0) words (kind_of c.in-Err.error) c.refused.result c.in_ok-program.ensures.value
+    c.in-Err.ensures.kinds c.refused.ensures.memory differs
 
 pub returns-in-Err-clause-asked : goal.returns-in-Err-clause-asked
 returns-in-Err-clause-asked c = λ is.

@@ -15,7 +15,7 @@ returns-in-Some-clause-value c =
 pub returns-in-Some-clause-only_if_refused : goal.returns-in-Some-clause-only_if_refused
 returns-in-Some-clause-only_if_refused c =
     let e = texts_found (found_of c.args.given.now) (codes "script") (Some (map (λ v. v.now) c.in-Some.scripts.now)) (rw c.in-Some.is at c.get_strs.ensures) in
-    subst (λ ts. IfErr c.vouch_job_of.result (λ f. f ≢ fault.Memory → meaning.vouch_job_of (rows_of (found_of c.args.given.now)) ts ≡ None)) e
+    subst (λ ts. IfErr c.vouch_job_of.result (λ f. f ≢ fault.Memory → meaning.AreHadIn (rows_of (found_of c.args.given.now)) → meaning.vouch_job_of (rows_of (found_of c.args.given.now)) ts ≡ None)) e
     c.vouch_job_of.ensures.only_if_refused
 
 pub returns-in-None-clause-value : goal.returns-in-None-clause-value
@@ -27,5 +27,5 @@ returns-in-None-clause-value c =
 pub returns-in-None-clause-only_if_refused : goal.returns-in-None-clause-only_if_refused
 returns-in-None-clause-only_if_refused c =
     let e = texts_found (found_of c.args.given.now) (codes "script") None (rw c.in-None.is at c.get_strs.ensures) in
-    subst (λ ts. IfErr c.vouch_job_of-in-None.result (λ f. f ≢ fault.Memory → meaning.vouch_job_of (rows_of (found_of c.args.given.now)) ts ≡ None)) e
+    subst (λ ts. IfErr c.vouch_job_of-in-None.result (λ f. f ≢ fault.Memory → meaning.AreHadIn (rows_of (found_of c.args.given.now)) → meaning.vouch_job_of (rows_of (found_of c.args.given.now)) ts ≡ None)) e
     c.vouch_job_of-in-None.ensures.only_if_refused

@@ -1,0 +1,6 @@
+-- What was found with landmarks is judged, and else the fullest start.
+use Rattle.std.proofs.Common.{inl, inr}
+use Rattle.ed_calls.proofs.starts.landmarked_of.Goals as goal
+
+pub returns-in-Some-clause-judged : goal.returns-in-Some-clause-judged
+returns-in-Some-clause-judged c = inr (inl (rw c.in-Some.is at c.in_ok-found.ensures.landmarked), c.requires.refused)

@@ -1,0 +1,557 @@
+//! What is known of single lines after a command, in a run that follows them. Worked out by hand.
+
+ghost use Rattle.std.specs.Prelude.{◌<◌, ◌≤ℤ◌, pos, negsuc};
+
+use crate::walking::{Start, lines, named, state_of};
+use ed_base::{Bytes, Letter, Texts};
+use ed_rules::{ClearStretch, KnownLine, State, Watch, outcome_into};
+use ed_syntax::read_script;
+use std::alloc::{AllocError, Global};
+use std::test::Fail;
+use zones::Name;
+
+/// The name of a place: a letter, `.`, `$` or `0`.
+fn at(byte: u8) -> Name {
+    match byte {
+        b'0' => Name::ZERO,
+        b'.' => Name::CURRENT_LINE,
+        b'$' | b'+' => Name::LAST_LINE,
+        letter => named(letter),
+    }
+}
+
+/// One more than the last line, which is spelled `+`, is that much more than `$`.
+fn plus(byte: u8) -> i64
+    ensures small { (negsuc 9 ≤ℤ result) × (result ≤ℤ pos 9) }
+{
+    if byte == b'+' { 1 } else { 0 }
+}
+
+fn edge(byte: u8) -> u8
+    ensures in_range { result < 33 }
+{
+    if byte == b'+' {
+        ClearStretch::END
+    } else {
+        at(byte).place() as u8
+    }
+}
+
+fn add_line(state: &mut State, name: u8, pattern: &[u8], matches: bool) -> Result<(), AllocError> {
+    let pattern = Bytes::from_slice(*state.facts.lines.allocator(), pattern)?;
+    state.facts.lines.push(KnownLine {
+        name: at(name),
+        pattern,
+        matches,
+    })?;
+    Ok(())
+}
+
+fn add_clear(state: &mut State, after: u8, before: u8, pattern: &[u8]) -> Result<(), AllocError> {
+    let pattern = Bytes::from_slice(*state.facts.clear.allocator(), pattern)?;
+    state.facts.clear.push(ClearStretch {
+        after: edge(after),
+        before: edge(before),
+        pattern,
+    })?;
+    Ok(())
+}
+
+/// Four to nine lines, the last one current. `y` is the first line that matches A, and comes after line 1; `z` is the first one after it
+/// that matches B, and comes before the last line. No line after `y` matches A.
+fn begin(alloc: Global) -> Result<State, AllocError> {
+    let mut state = state_of(alloc, lines!(4, Some(9)))?;
+    state.marks.add(Letter::at(24));
+    state.marks.add(Letter::at(25));
+    state.zone.guard(Name::ZERO, at(b'y'), -2);
+    state.zone.guard(at(b'y'), at(b'z'), -1);
+    state.zone.guard(at(b'z'), Name::LAST_LINE, -1);
+    state.follows = true;
+    add_line(&mut state, b'y', b"A", true)?;
+    add_clear(&mut state, b'0', b'y', b"A")?;
+    add_clear(&mut state, b'y', b'+', b"A")?;
+    add_line(&mut state, b'z', b"B", true)?;
+    add_clear(&mut state, b'y', b'z', b"B")?;
+    Ok(state)
+}
+
+/// What is asked of a state: whether a line is known to match a pattern, or whether no line between two is known to.
+#[derive(Clone, Copy, Debug)]
+enum Asked {
+    Line(u8, &'static [u8], Option<bool>),
+    Clear(u8, u8, &'static [u8], bool),
+}
+
+/// Whether the place of a name is that of a command's address.
+fn is_address(place: usize) -> bool {
+    3 <= place && place < 6
+}
+
+/// Whether facts are left of a command's addresses.
+fn names_addresses(state: &State) -> bool {
+    for fact in &state.facts.lines {
+        if is_address(fact.name.place()) {
+            return true;
+        }
+    }
+    for stretch in &state.facts.clear {
+        if is_address(usize::from(stretch.after)) || is_address(usize::from(stretch.before)) {
+            return true;
+        }
+    }
+    false
+}
+
+/// Whether a state answers something else.
+fn answers_otherwise(state: &State, asked: Asked) -> bool {
+    match asked {
+        Asked::Line(x, pattern, answer) => state.facts.told(&state.zone, at(x), pattern) != answer,
+        Asked::Clear(x, y, pattern, answer) => {
+            let (zone, facts) = (&state.zone, &state.facts);
+            facts.are_clear(zone, at(x), plus(x), at(y), plus(y), pattern) != answer
+        }
+    }
+}
+
+/// A script, and what is known then.
+#[derive(Drop)]
+struct Row {
+    script: &'static [u8],
+    asked: Asked,
+}
+
+const YES: Option<bool> = Some(true);
+
+const NO: Option<bool> = Some(false);
+
+#[rattlefmt::skip]
+static KEPT: [Row; 18] = [
+    Row { script: b"=\n", asked: Asked::Line(b'y', b"A", YES) },
+    Row { script: b"=\n", asked: Asked::Clear(b'0', b'y', b"A", true) },
+    Row { script: b"=\n", asked: Asked::Clear(b'y', b'+', b"A", true) },
+    Row { script: b"=\n", asked: Asked::Line(b'y', b"B", None) },
+    Row { script: b"'y=\n", asked: Asked::Line(b'y', b"A", YES) },
+    Row { script: b"h\n", asked: Asked::Line(b'y', b"A", YES) },
+    Row { script: b"H\n", asked: Asked::Line(b'y', b"A", YES) },
+    Row { script: b"P\n", asked: Asked::Clear(b'y', b'z', b"B", true) },
+    Row { script: b"w\n", asked: Asked::Line(b'z', b"B", YES) },
+    Row { script: b"1,'yw\n", asked: Asked::Line(b'z', b"B", YES) },
+    Row { script: b"f G\n", asked: Asked::Clear(b'0', b'y', b"A", true) },
+    Row { script: b"q\n", asked: Asked::Line(b'z', b"B", YES) },
+    Row { script: b"Q\n", asked: Asked::Line(b'z', b"B", YES) },
+    // A file in place of all, and lines that were before.
+    Row { script: b"e\n", asked: Asked::Line(b'y', b"A", None) },
+    Row { script: b"E\n", asked: Asked::Clear(b'0', b'+', b"A", false) },
+    // An address is forgotten with its facts, and a letter that isn't sure.
+    Row { script: b"'y=\n", asked: Asked::Line(b'z', b"A", NO) },
+    Row { script: b"=\n", asked: Asked::Line(b'x', b"A", None) },
+    Row { script: b"=\n", asked: Asked::Clear(b'x', b'+', b"C", false) },
+];
+
+#[rattlefmt::skip]
+static CURRENT: [Row; 22] = [
+    Row { script: b"'yp\n", asked: Asked::Line(b'.', b"A", YES) },
+    Row { script: b"'yp\n", asked: Asked::Clear(b'0', b'.', b"A", true) },
+    Row { script: b"'yp\n", asked: Asked::Clear(b'.', b'+', b"A", true) },
+    Row { script: b"'yp\n", asked: Asked::Line(b'z', b"B", YES) },
+    Row { script: b"'yl\n", asked: Asked::Line(b'.', b"A", YES) },
+    Row { script: b"'yn\n", asked: Asked::Line(b'.', b"A", YES) },
+    Row { script: b"'y\n", asked: Asked::Line(b'.', b"A", YES) },
+    Row { script: b"1p\n", asked: Asked::Line(b'.', b"A", NO) },
+    Row { script: b"1p\n", asked: Asked::Clear(b'.', b'y', b"A", true) },
+    // The last line that is written is current.
+    Row { script: b"'y,'zp\n", asked: Asked::Line(b'.', b"B", YES) },
+    Row { script: b"'y,'zp\n", asked: Asked::Line(b'.', b"A", NO) },
+    // What was known of the line that was current is not known of another one.
+    Row { script: b"'yp\n'zp\n", asked: Asked::Line(b'.', b"A", NO) },
+    Row { script: b"'yp\n3p\n", asked: Asked::Line(b'.', b"A", None) },
+    Row { script: b"/A/p\n/B/p\n", asked: Asked::Line(b'.', b"B", YES) },
+    // Without a text.
+    Row { script: b"'ya\n.\n", asked: Asked::Line(b'.', b"A", YES) },
+    Row { script: b"'zi\n.\n", asked: Asked::Line(b'.', b"B", YES) },
+    // Marks.
+    Row { script: b"'yka\n", asked: Asked::Line(b'a', b"A", YES) },
+    Row { script: b"'yka\n", asked: Asked::Clear(b'0', b'a', b"A", true) },
+    Row { script: b"'zky\n", asked: Asked::Line(b'y', b"A", NO) },
+    Row { script: b"'zky\n", asked: Asked::Line(b'y', b"B", YES) },
+    Row { script: b"'zky\n", asked: Asked::Clear(b'0', b'y', b"A", false) },
+    Row { script: b"'zky\n'yp\n", asked: Asked::Line(b'.', b"B", YES) },
+];
+
+#[rattlefmt::skip]
+static EDITS: [Row; 89] = [
+    // `d`: letters on either side stay, and stretches only get shorter.
+    Row { script: b"1d\n", asked: Asked::Line(b'y', b"A", YES) },
+    Row { script: b"1d\n", asked: Asked::Clear(b'0', b'y', b"A", true) },
+    Row { script: b"1d\n", asked: Asked::Clear(b'y', b'z', b"B", true) },
+    Row { script: b"1d\n", asked: Asked::Clear(b'y', b'+', b"A", true) },
+    Row { script: b"1d\n", asked: Asked::Clear(b'.', b'y', b"A", true) },
+    Row { script: b"1d\n", asked: Asked::Line(b'.', b"A", None) },
+    Row { script: b"'yp\n1d\n", asked: Asked::Line(b'.', b"A", None) },
+    Row { script: b"$d\n", asked: Asked::Line(b'z', b"B", YES) },
+    Row { script: b"$d\n", asked: Asked::Clear(b'y', b'+', b"A", true) },
+    Row { script: b"'yd\n", asked: Asked::Line(b'y', b"A", None) },
+    Row { script: b"'yd\n", asked: Asked::Line(b'z', b"B", YES) },
+    Row { script: b"'yd\n", asked: Asked::Clear(b'0', b'+', b"A", true) },
+    Row { script: b"'yd\n", asked: Asked::Clear(b'0', b'z', b"A", true) },
+    Row { script: b"'yd\n", asked: Asked::Clear(b'0', b'z', b"B", false) },
+    Row { script: b"'zd\n", asked: Asked::Line(b'z', b"B", None) },
+    Row { script: b"'zd\n", asked: Asked::Line(b'y', b"A", YES) },
+    Row { script: b",d\n", asked: Asked::Clear(b'0', b'+', b"A", true) },
+    // `a`
+    Row { script: b"0a\nx\n.\n", asked: Asked::Clear(b'0', b'y', b"A", true) },
+    Row { script: b"0a\nx\n.\n", asked: Asked::Line(b'y', b"A", YES) },
+    Row { script: b"0a\nx\n.\n", asked: Asked::Line(b'.', b"A", NO) },
+    Row { script: b"0a\nA\n.\n", asked: Asked::Clear(b'0', b'y', b"A", false) },
+    Row { script: b"0a\nA\n.\n", asked: Asked::Line(b'y', b"A", YES) },
+    Row { script: b"0a\nA\n.\n", asked: Asked::Line(b'.', b"A", YES) },
+    Row { script: b"0a\nA\n.\n", asked: Asked::Clear(b'.', b'y', b"A", true) },
+    Row { script: b"$a\nx\n.\n", asked: Asked::Clear(b'y', b'+', b"A", true) },
+    Row { script: b"$a\nA\n.\n", asked: Asked::Clear(b'y', b'+', b"A", false) },
+    Row { script: b"$a\nA\n.\n", asked: Asked::Line(b'$', b"A", YES) },
+    Row { script: b"$a\nA\n.\n", asked: Asked::Clear(b'y', b'.', b"A", true) },
+    Row { script: b"$a\nA\nx\n.\n", asked: Asked::Line(b'$', b"A", NO) },
+    Row { script: b"$a\nA\nx\n.\n", asked: Asked::Clear(b'y', b'.', b"A", false) },
+    Row { script: b"$a\nx\nA\n.\n", asked: Asked::Clear(b'y', b'.', b"A", true) },
+    Row { script: b"'ya\nB\n.\n", asked: Asked::Clear(b'y', b'z', b"B", false) },
+    Row { script: b"'ya\nB\n.\n", asked: Asked::Clear(b'0', b'y', b"A", true) },
+    Row { script: b"'ya\nx\n.\n", asked: Asked::Clear(b'y', b'z', b"B", true) },
+    // Each letter stays where lines are put in, on whichever side it is.
+    Row { script: b"2a\nx\n.\n", asked: Asked::Line(b'y', b"A", YES) },
+    Row { script: b"2a\nx\n.\n", asked: Asked::Line(b'z', b"B", YES) },
+    Row { script: b"2a\nx\n.\n", asked: Asked::Clear(b'0', b'y', b"A", true) },
+    Row { script: b"2a\nx\n.\n", asked: Asked::Clear(b'y', b'z', b"B", true) },
+    Row { script: b"2a\nA\n.\n", asked: Asked::Line(b'y', b"A", YES) },
+    Row { script: b"2a\nA\n.\n", asked: Asked::Clear(b'0', b'y', b"A", false) },
+    Row { script: b"2a\nB\n.\n", asked: Asked::Clear(b'0', b'y', b"A", true) },
+    Row { script: b"2a\nB\n.\n", asked: Asked::Clear(b'y', b'z', b"B", false) },
+    Row { script: b"3i\nx\n.\n", asked: Asked::Line(b'y', b"A", YES) },
+    Row { script: b"3i\nA\n.\n", asked: Asked::Clear(b'y', b'+', b"A", false) },
+    Row { script: b"3c\nx\n.\n", asked: Asked::Line(b'y', b"A", None) },
+    // `r`: what comes may match anything, or be nothing.
+    Row { script: b"$r\n", asked: Asked::Line(b'z', b"B", YES) },
+    Row { script: b"$r\n", asked: Asked::Clear(b'0', b'y', b"A", true) },
+    Row { script: b"$r\n", asked: Asked::Clear(b'y', b'+', b"A", false) },
+    Row { script: b"0r\n", asked: Asked::Clear(b'y', b'+', b"A", true) },
+    Row { script: b"0r\n", asked: Asked::Clear(b'.', b'y', b"A", true) },
+    Row { script: b"0r\n", asked: Asked::Clear(b'0', b'y', b"A", false) },
+    Row { script: b"2r\n", asked: Asked::Line(b'y', b"A", YES) },
+    Row { script: b"'yr\n", asked: Asked::Line(b'.', b"A", None) },
+    // `t`
+    Row { script: b"'yt$\n", asked: Asked::Line(b'y', b"A", YES) },
+    Row { script: b"'yt$\n", asked: Asked::Clear(b'0', b'y', b"A", true) },
+    Row { script: b"'yt$\n", asked: Asked::Clear(b'y', b'z', b"B", true) },
+    Row { script: b"'yt$\n", asked: Asked::Clear(b'y', b'+', b"A", false) },
+    Row { script: b"1,'zt0\n", asked: Asked::Clear(b'y', b'+', b"A", true) },
+    Row { script: b"1,'zt0\n", asked: Asked::Clear(b'0', b'y', b"A", false) },
+    Row { script: b"1,'zt0\n", asked: Asked::Clear(b'.', b'y', b"A", true) },
+    Row { script: b"$t2\n", asked: Asked::Line(b'z', b"B", YES) },
+    // A copy of one line is like that.
+    Row { script: b"'yt$\n", asked: Asked::Line(b'.', b"A", YES) },
+    Row { script: b"'yt.\n", asked: Asked::Line(b'.', b"A", YES) },
+    Row { script: b"'yt$\n", asked: Asked::Line(b'$', b"A", YES) },
+    Row { script: b"'yt$\n", asked: Asked::Clear(b'y', b'.', b"A", true) },
+    Row { script: b"'yt$\n", asked: Asked::Line(b'.', b"B", None) },
+    Row { script: b"'zt$\n", asked: Asked::Line(b'.', b"A", NO) },
+    Row { script: b"'zt$\n", asked: Asked::Clear(b'y', b'+', b"A", true) },
+    Row { script: b"'zt'y\n", asked: Asked::Clear(b'y', b'z', b"B", false) },
+    Row { script: b"'y,'zt$\n", asked: Asked::Line(b'.', b"A", None) },
+    Row { script: b"'yt.\ns/A/x/\n", asked: Asked::Line(b'y', b"A", YES) },
+    // `i`
+    Row { script: b"'yi\nA\n.\n", asked: Asked::Clear(b'0', b'y', b"A", false) },
+    Row { script: b"'yi\nA\n.\n", asked: Asked::Clear(b'0', b'.', b"A", true) },
+    Row { script: b"'yi\nA\n.\n", asked: Asked::Line(b'y', b"A", YES) },
+    Row { script: b"0i\nx\n.\n", asked: Asked::Clear(b'0', b'y', b"A", true) },
+    // `c`
+    Row { script: b"'yc\nA\n.\n", asked: Asked::Line(b'y', b"A", None) },
+    Row { script: b"'yc\nA\n.\n", asked: Asked::Line(b'.', b"A", YES) },
+    Row { script: b"'yc\nA\n.\n", asked: Asked::Clear(b'0', b'.', b"A", true) },
+    Row { script: b"'yc\nA\n.\n", asked: Asked::Clear(b'.', b'+', b"A", true) },
+    Row { script: b"'zc\nA\n.\n", asked: Asked::Clear(b'y', b'+', b"A", false) },
+    Row { script: b"0c\nx\n.\n", asked: Asked::Clear(b'0', b'y', b"A", true) },
+    Row { script: b"1c\n.\n", asked: Asked::Line(b'y', b"A", YES) },
+    // `j`: of the line that was made nothing is known.
+    Row { script: b"'y,'zj\n", asked: Asked::Line(b'.', b"A", None) },
+    Row { script: b"'y,'zj\n", asked: Asked::Clear(b'0', b'.', b"A", true) },
+    Row { script: b"'y,'zj\n", asked: Asked::Clear(b'0', b'+', b"A", false) },
+    Row { script: b"'z,$j\n", asked: Asked::Line(b'y', b"A", YES) },
+    Row { script: b"'z,$j\n", asked: Asked::Clear(b'y', b'+', b"A", false) },
+    Row { script: b"'zj\n", asked: Asked::Line(b'z', b"B", YES) },
+    Row { script: b"'yp\n'z,$j\n", asked: Asked::Line(b'.', b"A", None) },
+];
+
+#[rattlefmt::skip]
+static SUBSTITUTIONS: [Row; 28] = [
+    // Of the line that comes of one nothing is known; the others are as they were, with their letters.
+    Row { script: b"'ys/A/x/\n", asked: Asked::Line(b'.', b"A", None) },
+    Row { script: b"'ys/A/x/\n", asked: Asked::Line(b'y', b"A", None) },
+    Row { script: b"'ys/A/x/\n", asked: Asked::Line(b'z', b"B", YES) },
+    Row { script: b"'ys/A/x/\n", asked: Asked::Clear(b'0', b'.', b"A", true) },
+    Row { script: b"'ys/A/x/\n", asked: Asked::Clear(b'.', b'+', b"A", true) },
+    Row { script: b"'ys/A/x/\n", asked: Asked::Clear(b'.', b'z', b"B", true) },
+    Row { script: b"'ys/A/x/\n", asked: Asked::Clear(b'0', b'+', b"A", false) },
+    Row { script: b"'ys/A/x/\n", asked: Asked::Clear(b'0', b'z', b"A", false) },
+    Row { script: b"/A/s//x/\n", asked: Asked::Line(b'z', b"B", YES) },
+    Row { script: b"/A/s/A*$/x/g\n", asked: Asked::Line(b'z', b"B", YES) },
+    Row { script: b"'zs/B/x/\n", asked: Asked::Line(b'y', b"A", YES) },
+    Row { script: b"'zs/B/x/\n", asked: Asked::Clear(b'0', b'y', b"A", true) },
+    Row { script: b"'zs/B/x/\n", asked: Asked::Clear(b'y', b'.', b"A", true) },
+    Row { script: b"'zs/B/x/\n", asked: Asked::Clear(b'y', b'.', b"B", true) },
+    Row { script: b"'zs/B/x/\n", asked: Asked::Clear(b'.', b'+', b"A", true) },
+    Row { script: b"'zs/B/x/\n", asked: Asked::Clear(b'y', b'+', b"A", false) },
+    Row { script: b"'yp\n'zs/B/x/\n", asked: Asked::Line(b'.', b"A", None) },
+    Row { script: b"$s/x*/A/\n", asked: Asked::Line(b'z', b"B", YES) },
+    Row { script: b"$s/x*/A/\n", asked: Asked::Clear(b'y', b'+', b"A", false) },
+    Row { script: b"$s/x*/A/\n", asked: Asked::Line(b'$', b"A", None) },
+    // Where lines may be split, a line that comes of it may be one that matches, before the last of them too.
+    Row { script: b"'ys/A/A\\\nx/\n", asked: Asked::Line(b'z', b"B", YES) },
+    Row { script: b"'ys/A/A\\\nx/\n", asked: Asked::Clear(b'0', b'.', b"A", false) },
+    Row { script: b"'ys/A/A\\\nx/\n", asked: Asked::Clear(b'.', b'+', b"A", true) },
+    Row { script: b"'zs/B/x\\\nx/\n", asked: Asked::Clear(b'0', b'y', b"A", true) },
+    Row { script: b"'zs/B/x\\\nx/\n", asked: Asked::Clear(b'y', b'.', b"B", false) },
+    // Of several lines nothing is left.
+    Row { script: b"'y,'zs/A/x/\n", asked: Asked::Line(b'z', b"B", None) },
+    Row { script: b"1,'ys/A/x/\n", asked: Asked::Line(b'z', b"B", None) },
+    Row { script: b"'ys/A/x/\n1d\n", asked: Asked::Line(b'z', b"B", YES) },
+];
+
+#[rattlefmt::skip]
+static UNDONE: [Row; 14] = [
+    // What was known before is known again, of the current line too.
+    Row { script: b"'yd\nu\n", asked: Asked::Line(b'y', b"A", YES) },
+    Row { script: b"'yd\nu\n", asked: Asked::Clear(b'0', b'y', b"A", true) },
+    Row { script: b"'ys/A/x/\nu\n", asked: Asked::Line(b'y', b"A", YES) },
+    Row { script: b"'yp\n1d\nu\n", asked: Asked::Line(b'.', b"A", YES) },
+    Row { script: b"0a\nA\n.\nu\n", asked: Asked::Clear(b'0', b'y', b"A", true) },
+    Row { script: b"'yd\n'zp\nu\n", asked: Asked::Line(b'y', b"A", YES) },
+    Row { script: b"'yd\n'zp\nu\n", asked: Asked::Line(b'.', b"B", None) },
+    // Not of what a command left, nor of a letter that was set since.
+    Row { script: b"$a\nA\n.\nu\n", asked: Asked::Line(b'$', b"A", NO) },
+    Row { script: b"1d\n'zka\nu\n", asked: Asked::Line(b'a', b"B", None) },
+    // Once more: what the command left.
+    Row { script: b"'yd\nu\nu\n", asked: Asked::Line(b'y', b"A", None) },
+    Row { script: b"'yd\nu\nu\n", asked: Asked::Clear(b'0', b'+', b"A", true) },
+    Row { script: b"0a\nA\n.\nu\nu\n", asked: Asked::Clear(b'0', b'y', b"A", false) },
+    Row { script: b"0a\nA\n.\nu\nu\n", asked: Asked::Line(b'.', b"A", YES) },
+    Row { script: b"1d\n'zka\nu\nu\n", asked: Asked::Line(b'a', b"B", YES) },
+];
+
+#[rattlefmt::skip]
+static MOVED: [Row; 24] = [
+    // Letters go with their lines, and the last line that is moved is current.
+    Row { script: b"'ym0\n", asked: Asked::Line(b'y', b"A", YES) },
+    Row { script: b"'ym0\n", asked: Asked::Line(b'z', b"B", YES) },
+    Row { script: b"'ym0\n", asked: Asked::Line(b'.', b"A", YES) },
+    Row { script: b"'yp\n'zm0\n", asked: Asked::Line(b'.', b"B", YES) },
+    Row { script: b"'yp\n'zm0\n", asked: Asked::Line(b'.', b"A", NO) },
+    Row { script: b"'y,'zm0\n", asked: Asked::Line(b'.', b"B", YES) },
+    Row { script: b"1m$\n", asked: Asked::Line(b'y', b"A", YES) },
+    // A stretch stays on one side of what is moved and of its place.
+    Row { script: b"'zm$\n", asked: Asked::Clear(b'0', b'y', b"A", true) },
+    Row { script: b"'zm$\n", asked: Asked::Clear(b'y', b'+', b"A", false) },
+    Row { script: b"'zm$\n", asked: Asked::Clear(b'y', b'z', b"B", false) },
+    Row { script: b"$m'y\n", asked: Asked::Clear(b'0', b'y', b"A", true) },
+    Row { script: b"$m'y\n", asked: Asked::Clear(b'y', b'z', b"B", false) },
+    Row { script: b"$m'z\n", asked: Asked::Clear(b'y', b'z', b"B", true) },
+    Row { script: b"$m0\n", asked: Asked::Clear(b'0', b'y', b"A", false) },
+    Row { script: b"1m$\n", asked: Asked::Clear(b'0', b'y', b"A", false) },
+    Row { script: b"'ym0\n", asked: Asked::Clear(b'y', b'z', b"B", false) },
+    Row { script: b"'ym'z\n", asked: Asked::Clear(b'y', b'+', b"A", false) },
+    Row { script: b"0a\nx\nx\n.\n1m2\n", asked: Asked::Clear(b'y', b'+', b"A", true) },
+    // Where no line matches, none does after it.
+    Row { script: b"'yd\n1m$\n", asked: Asked::Clear(b'0', b'+', b"A", true) },
+    // The last line stays if it is after both.
+    Row { script: b"$a\nA\n.\n1m2\n", asked: Asked::Line(b'$', b"A", YES) },
+    Row { script: b"$a\nA\n.\n1m$\n", asked: Asked::Line(b'$', b"A", NO) },
+    Row { script: b"$a\nA\n.\n$m0\n", asked: Asked::Line(b'$', b"A", None) },
+    Row { script: b"$a\nA\n.\n$m0\n", asked: Asked::Line(b'.', b"A", YES) },
+    Row { script: b"'zm0\ns/B/x/\n", asked: Asked::Line(b'y', b"A", YES) },
+];
+
+/// The state after a script, in which A and B are watched for.
+fn after_script(alloc: Global, script: &[u8], follows: bool) -> Result<Option<State>, AllocError> {
+    let mut state = begin(alloc)?;
+    // A fact of a letter that isn't sure, which is forgotten.
+    add_line(&mut state, b'x', b"A", true)?;
+    add_clear(&mut state, b'x', b'+', b"C")?;
+    state.follows = follows;
+    after_in(alloc, state, script)
+}
+
+/// The same from a state.
+fn after_in(alloc: Global, begun: State, script: &[u8]) -> Result<Option<State>, AllocError> {
+    let mut state = begun;
+    let script = read_script(alloc, script)?;
+    let mut has = Texts::none(alloc);
+    has.add(b"A")?;
+    has.add(b"B")?;
+    let watch = Watch::of(&script, &has)?;
+    let mut left = state.try_copy()?;
+    for command in script.commands.as_slice() {
+        if outcome_into(command, &state, &mut left, &watch)?.is_some() {
+            return Ok(None);
+        }
+        state.try_copy_from(&left)?;
+    }
+    Ok(Some(state))
+}
+
+/// Whether a script comes to something else than its row says.
+fn is_otherwise(alloc: Global, row: &Row) -> Result<bool, AllocError> {
+    match after_script(alloc, row.script, true)? {
+        Some(state) => Ok(names_addresses(&state) || answers_otherwise(&state, row.asked)),
+        None => Ok(true),
+    }
+}
+
+/// Whether facts are left where no lines are followed.
+fn leaves_facts(alloc: Global, script: &[u8]) -> Result<bool, AllocError> {
+    match after_script(alloc, script, false)? {
+        Some(state) => Ok(!state.facts.are_none()),
+        None => Ok(true),
+    }
+}
+
+#[test]
+fn commands_that_change_no_line_keep_facts(rt: HostRuntime) -> Result<(), Fail> {
+    for row in &KEPT {
+        let otherwise = is_otherwise(rt.alloc(), row)?;
+        assert!(rt; !otherwise, "{:?} {:?}", row.script, row.asked);
+    }
+    Ok(())
+}
+
+#[test]
+fn facts_go_with_the_current_line_and_with_marks(rt: HostRuntime) -> Result<(), Fail> {
+    for row in &CURRENT {
+        let otherwise = is_otherwise(rt.alloc(), row)?;
+        assert!(rt; !otherwise, "{:?} {:?}", row.script, row.asked);
+    }
+    Ok(())
+}
+
+#[test]
+fn substitutions_on_one_line_keep_what_is_known_of_the_others(rt: HostRuntime) -> Result<(), Fail> {
+    for row in &SUBSTITUTIONS {
+        let otherwise = is_otherwise(rt.alloc(), row)?;
+        assert!(rt; !otherwise, "{:?} {:?}", row.script, row.asked);
+    }
+    Ok(())
+}
+
+#[test]
+fn undo_brings_back_what_was_known(rt: HostRuntime) -> Result<(), Fail> {
+    for row in &UNDONE {
+        let otherwise = is_otherwise(rt.alloc(), row)?;
+        assert!(rt; !otherwise, "{:?} {:?}", row.script, row.asked);
+    }
+    Ok(())
+}
+
+#[test]
+fn lines_that_are_moved_keep_what_is_known_of_them(rt: HostRuntime) -> Result<(), Fail> {
+    for row in &MOVED {
+        let otherwise = is_otherwise(rt.alloc(), row)?;
+        assert!(rt; !otherwise, "{:?} {:?}", row.script, row.asked);
+    }
+    Ok(())
+}
+
+/// Whether something is known of single lines after the first command of a list.
+fn are_left_in_list(alloc: Global, script: &[u8]) -> Result<Option<bool>, AllocError> {
+    let state = begin(alloc)?;
+    let script = read_script(alloc, script)?;
+    let mut left = state.try_copy()?;
+    for command in script.commands.as_slice() {
+        for listed in command.list() {
+            let failed = outcome_into(listed, &state, &mut left, &Watch::none(alloc))?;
+            return Ok(Some(failed.is_none() && !left.facts.are_none()));
+        }
+    }
+    Ok(None)
+}
+
+#[test]
+fn in_a_list_a_substitution_leaves_nothing(rt: HostRuntime) -> Result<(), Fail> {
+    // There it may be that no line matches, and none is changed.
+    let substituted = are_left_in_list(rt.alloc(), b"g/x/'ys/A/x/\n")?;
+    assert!(rt; substituted == Some(false));
+    let deleted = are_left_in_list(rt.alloc(), b"g/x/'yd\n")?;
+    assert!(rt; deleted == Some(true));
+    Ok(())
+}
+
+#[test]
+fn edits_keep_what_they_do_not_touch(rt: HostRuntime) -> Result<(), Fail> {
+    for row in &EDITS {
+        let otherwise = is_otherwise(rt.alloc(), row)?;
+        assert!(rt; !otherwise, "{:?} {:?}", row.script, row.asked);
+    }
+    Ok(())
+}
+
+/// At least four lines. The letters of the keys mark lines in this order, the first of them after line 1; each alone matches its key.
+fn begin_with(alloc: Global, keys: &[u8]) -> Result<State, AllocError> {
+    let mut state = state_of(alloc, lines!(4, None))?;
+    state.follows = true;
+    let mut before = Name::ZERO;
+    for key in keys {
+        let name = at(*key);
+        if let Some(letter) = Letter::new(*key) {
+            state.marks.add(letter);
+        }
+        state.zone.guard(before, name, -1);
+        before = name;
+        let pattern: &[u8] = &[*key];
+        add_line(&mut state, *key, pattern, true)?;
+        add_clear(&mut state, b'0', *key, pattern)?;
+        add_clear(&mut state, *key, b'+', pattern)?;
+    }
+    state.zone.guard(before, Name::LAST_LINE, 0);
+    Ok(state)
+}
+
+/// How many stretches are known after a script, beside so many letters whose lines alone match a pattern.
+fn stretches_after(alloc: Global, keys: &[u8], script: &[u8]) -> Result<Option<usize>, AllocError> {
+    let state = begin_with(alloc, keys)?;
+    match after_in(alloc, state, script)? {
+        Some(state) => Ok(Some(state.facts.clear.len())),
+        None => Ok(None),
+    }
+}
+
+#[test]
+fn stretches_that_others_say_are_left_out(rt: HostRuntime) -> Result<(), Fail> {
+    // One up to the letter and one from it, of each pattern, whatever is edited on one side.
+    let one = stretches_after(rt.alloc(), b"r", b"$a\n-\n.\n")?;
+    assert!(rt; one == Some(2));
+    let nine = stretches_after(rt.alloc(), b"rstuvwxyz", b"$a\n-\n.\n")?;
+    assert!(rt; nine == Some(18));
+    let again = stretches_after(rt.alloc(), b"rstuvwxyz", b"$a\n-\n.\n0a\n-\n.\n'z\n")?;
+    assert!(rt; again == Some(18));
+    Ok(())
+}
+
+#[test]
+fn nothing_is_left_where_no_lines_are_followed(rt: HostRuntime) -> Result<(), Fail> {
+    let kept = leaves_facts(rt.alloc(), b"=\n")?;
+    assert!(rt; !kept);
+    let edited = leaves_facts(rt.alloc(), b"1d\n")?;
+    assert!(rt; !edited);
+    Ok(())
+}
+
+#[test]
+fn facts_of_letters_that_are_not_sure_on_both_sides_are_not_joined(
+    rt: HostRuntime,
+) -> Result<(), Fail> {
+    let one = begin(rt.alloc())?;
+    let mut other = begin(rt.alloc())?;
+    other.marks.remove(Letter::at(24));
+    let (y, z) = (Asked::Line(b'y', b"A", None), Asked::Line(b'z', b"B", YES));
+    let joined = one.join(&other)?;
+    assert!(rt; !answers_otherwise(&joined, y) && !answers_otherwise(&joined, z));
+    let widened = one.widen(&other)?;
+    assert!(rt; !answers_otherwise(&widened, y) && !answers_otherwise(&widened, z));
+    Ok(())
+}
