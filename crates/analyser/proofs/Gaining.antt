@@ -6,7 +6,7 @@ use Rattle.ed_rules.specs.declared.state.State.{State}
 use Rattle.ed_rules.specs.Texts.{is_member, are_members}
 use Rattle.ed_rules.specs.Order.{join, widen}
 use Rattle.ed_rules.specs.Rules.{step}
-use Rattle.ed_rules.specs.Globals.{taken_matches, body_entry}
+use Rattle.ed_rules.specs.Globals.{line_taken, taken_matches, facts_taken, body_entry}
 use Rattle.ed_rules.proofs.Texting.{filter-passes, with_texts-passes}
 use Rattle.ed_rules.proofs.matches.Sayings.{OfSets, Says, says-step, says-join, says-widen, says-entry}
 use Rattle.cert_check.specs.declared.certificate.Version.{Version}
@@ -36,7 +36,7 @@ module _ (texts : List (List ℕ)) where
   among-widen one other h k = says-widen (IsOf texts) sets one other h k
 
   pub among-entry : (verb : Verb) (invariant : State) → are_members (taken_matches verb []) texts ≡ true → Among texts invariant → Among texts (body_entry verb invariant)
-  among-entry verb invariant g h = says-entry (IsOf texts) sets verb invariant g h
+  among-entry verb invariant g h = says-entry (IsOf texts) sets verb invariant (line_taken invariant.zone) (facts_taken verb invariant) g h
 
   -- AS FAR AS IT IS TOLD
 

@@ -1,5 +1,6 @@
 -- Two results side by side: where the rule's is a value, so is the editor's, and the two are related.
 use Rattle.std.proofs.Common.{◌≡◌, ℤ, ◌-ℤ◌, Bool, true, false, Option, None, Some, Result, Ok, Err, refl, sym, subst, arith}
+use Rattle.std.specs.Prelude.{IfSome, option_map}
 use Rattle.std.proofs.lemmas.Int.{ints}
 use Rattle.ed_base.specs.declared.fault.Fault.{Fault}
 use Rattle.zones.specs.Bound.{Obeys, sum_of, negative_of}
@@ -11,6 +12,11 @@ abbrev pub Agrees : {A B : Type 0} → (A → B → Type 0) → Result A Fault �
 Agrees R (Err f) other = Unit {0}
 Agrees R (Ok a) (Ok b) = R a b
 Agrees R (Ok a) (Err f) = ⊥
+
+-- what is said of a value that is made of another one, where there is one
+pub IfSome-mapped : {A B : Type 0} (f : A → B) (P : B → Type 0) (o : Option A) → ((a : A) → o ≡ Some a → P (f a)) → IfSome (option_map f o) P
+IfSome-mapped f P None h = tt
+IfSome-mapped f P (Some a) h = h a refl
 
 -- a difference less a number obeys the bound lowered by it
 pub Obeys-lowered : (d c e : ℤ) (b : Option ℤ) → Obeys d b → e ≡ d -ℤ c → Obeys e (negative_of (sum_of (negative_of b) (Some c)))

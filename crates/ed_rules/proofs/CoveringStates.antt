@@ -34,7 +34,7 @@ choices-union_other one other = choices-more other (union one other) (λ c h. ha
 
 -- MARKS
 
-sure-both : (one other : List Bool) (letter : ℕ) → letter < 26 → is_sure (both_sure one other) letter ≡ true → (is_sure one letter ≡ true) × (is_sure other letter ≡ true)
+pub sure-both : (one other : List Bool) (letter : ℕ) → letter < 26 → is_sure (both_sure one other) letter ≡ true → (is_sure one letter ≡ true) × (is_sure other letter ≡ true)
 unfolding both_sure
 sure-both one other letter l e =
     and_parts (is_sure one letter) (is_sure other letter)

@@ -17,4 +17,5 @@ pub mod AssignedFacts
 pub mod CarriedFacts
 pub mod FactsCarried
 pub mod SubstitutedFacts
+pub mod FactsSpared
 pub mod OneTurn

@@ -5,6 +5,7 @@ pub mod Spans
 pub mod Standing
 pub mod Finishing
 pub mod Inserting
+pub mod ToldApart
 pub mod Lifting
 pub mod Replacing
 pub mod Weaker
@@ -17,6 +18,7 @@ pub mod Moving
 pub mod Lettered
 pub mod Flags
 pub mod Results
+pub mod SparedLines
 pub mod Substituting
 pub mod SubstitutionEffects
 pub mod SubstitutedLine
@@ -30,3 +32,4 @@ pub mod FactsPhases
 pub mod Sound
 pub mod FlagsKept
 pub mod Looping
+pub mod OneTaken

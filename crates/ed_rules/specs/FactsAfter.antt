@@ -1,9 +1,10 @@
 -- The rules of single lines: what a run that follows them knows of them after each command. They stand beside the rules of bounds and sets,
 -- which leave this aside. What isn't said here is forgotten.
-use Rattle.std.specs.Prelude.{ℕ, pos, Bool, true, ◌&&◌, not, List, [], ◌∷◌, map, if◌then◌else◌}
+use Rattle.std.specs.Prelude.{ℕ, pos, negsuc, Bool, true, ◌&&◌, not, List, [], ◌∷◌, map, if◌then◌else◌}
 use Rattle.std.specs.List.{filter, range_with_len}
 use Rattle.zones.specs.Name.{current_line, last_line, first_address, second_address, target_address, mark}
 use Rattle.zones.specs.Known.{known}
+use Rattle.zones.specs.Steps.{after_guard}
 use Rattle.ed_syntax.specs.Commands as ed
 use Rattle.ed_syntax.specs.Commands.{Addresses, Verb}
 use Rattle.ed_rules.specs.declared.matching.Certainty.{Certainty}
@@ -11,15 +12,18 @@ use Rattle.ed_rules.specs.declared.matching.Certainty.TheVariants.{Never, Maybe,
 use Rattle.ed_rules.specs.declared.state.Old.{Old}
 use Rattle.ed_rules.specs.declared.state.State.{State}
 use Rattle.ed_rules.specs.States.{old_of}
+use Rattle.ed_rules.specs.Choices.{texts_of}
 use Rattle.ed_rules.specs.Marks.{is_sure}
 use Rattle.ed_rules.specs.Texts.{with_texts}
 use Rattle.ed_rules.specs.Matched.{gained}
+use Rattle.ed_rules.specs.Order.{facts_of_both}
 use Rattle.ed_rules.specs.Matching.{joining_given}
 use Rattle.ed_rules.specs.Following.{patterns_of, facts_set, spoken_facts}
 use Rattle.ed_rules.specs.facts.Facts.{Facts, no_facts}
 use Rattle.ed_rules.specs.facts.FoundLines.{without}
 use Rattle.ed_rules.specs.facts.PrunedFacts.{pruned}
 use Rattle.ed_rules.specs.facts.CarriedFacts.{carried_facts}
+use Rattle.ed_rules.specs.facts.SubstitutedFacts.{substituted_facts}
 use Rattle.ed_rules.specs.facts.EditedFacts.{Edit, stays, edited, deletion, changing, joining, rewriting, appending, reading, copying, inserting}
 
 -- THE END OF EACH RULE
@@ -70,24 +74,38 @@ abbrev pub facts_changed : (watched : List (List ℕ)) → (text : List (List �
 facts_changed watched [] b after = facts_edited [] deletion b after
 facts_changed watched (line ∷ more) b after = facts_edited (gained watched (line ∷ more)) (changing (line ∷ more)) b after
 
+-- what is left where lines may be joined: what is known of two or more lines that are, and of one that isn't, each by bounds that say so
+unfoldable pub facts_maybe_joined : Old → (after : List Bool) → Facts
+facts_maybe_joined b after =
+    facts_of_both after (facts_edited [] joining (record b { zone = after_guard b.zone first_address second_address (negsuc 0) }) after)
+    (after_guard b.zone second_address first_address (pos 0)) b.facts
+
 -- `j`, by whether lines are joined
 abbrev pub facts_joined : Certainty → Old → (after : List Bool) → Facts
 facts_joined Never b after = b.facts
 facts_joined Surely b after = facts_edited [] joining b after
-facts_joined Maybe b after = no_facts
+facts_joined Maybe b after = facts_maybe_joined b after
 
 -- `m`: no line gives way, so each sure letter goes with its line
 unfoldable pub facts_moved : Old → (after : List Bool) → Facts
 facts_moved b after =
     carried_facts b.zone b.facts (map (λ (letter : ℕ). mark letter) (letters_that_stay reading b after)) (patterns_of b.facts)
 
--- `s`, by the state that it makes. In a list it may leave a line as it is; elsewhere it goes on only where something is replaced, and of one
--- addressed line that is this line.
+-- Each addressed line stays, or gives way to one other: of those that surely stay all is still known. It is true too where no line is changed,
+-- as may be in a list. What comes of a line is looked at for no pattern.
+unfoldable pub facts_spared : Old → (r : State) → Facts
+facts_spared b r =
+    substituted_facts b.zone b.facts (texts_of r.patterns) [] (map (λ (letter : ℕ). mark letter) (letters_that_stay reading b r.marks))
+    (patterns_of b.facts)
+
+-- `s`, by the state that it makes. Outside of lists it goes on only where something is replaced, and of one addressed line that is this line.
+-- Elsewhere nothing is known where lines may be split.
 abbrev pub facts_substituted : (listed : Bool) → Old → (r : State) → Facts
 facts_substituted listed b r =
     if not listed && known b.zone second_address first_address (pos 0)
     then facts_edited [] (rewriting r.replacements.split) b r.marks
-    else no_facts
+    else if r.replacements.split then no_facts
+    else facts_spared b r
 
 -- EACH COMMAND
 
@@ -109,6 +127,7 @@ facts_left watched listed given (ed.WriteFile path) b r = b.facts
 facts_left watched listed given (ed.FileName path) b r = b.facts
 facts_left watched listed given ed.Quit b r = b.facts
 facts_left watched listed given ed.QuitAnyway b r = b.facts
+facts_left watched listed given (ed.Global which pattern) b r = b.facts
 facts_left watched listed given (ed.Substitute pattern replacement choice form) b r = facts_substituted listed b r
 facts_left watched listed given (ed.Move to) b r = facts_moved b r.marks
 facts_left watched listed given (ed.Copy to) b r = facts_edited [] (copying b.zone b.facts) b r.marks
@@ -117,7 +136,7 @@ facts_left watched listed given ed.Undo b r = r.facts
 facts_left watched listed given _ b r = no_facts
 
 -- What is known of single lines after a command, by the state `s` with its lines taken and the state `r` that the command makes; if they
--- aren't followed, nothing. Stretches that the zone of `r` or another stretch says are left out.
+-- aren't followed, nothing. What the zone of `r` or another fact says is left out.
 abbrev pub facts_after : (watched : List (List ℕ)) → (listed : Bool) → (given : Addresses) → Verb → (s r : State) → Facts
 facts_after watched listed given verb s r =
     if s.follows then pruned r.zone (facts_ended r.marks (facts_left watched listed given verb (old_of s) r)) else no_facts

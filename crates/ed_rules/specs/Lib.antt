@@ -15,9 +15,9 @@ pub mod Lines
 pub mod Move
 pub mod Substituting
 pub mod Files
-pub mod Undoing
 pub mod Matching
 pub mod FactsAfter
+pub mod Undoing
 pub mod Rules
 pub mod Reaching
 pub mod Soundness

@@ -1,5 +1,5 @@
 -- The pieces that rules share: needs, the end of a rule, the change of a buffer, insertion, line 0 as 1, replacement.
-use Rattle.std.specs.Prelude.{ℕ, zero, suc, ℤ, pos, negsuc, ◌-ℤ◌, Bool, true, false, List, Option, Some, None, slice_set, if◌then◌else◌, Result, Ok, Err}
+use Rattle.std.specs.Prelude.{ℕ, zero, suc, ℤ, pos, negsuc, ◌-ℤ◌, Bool, true, false, ◌&&◌, List, Option, Some, None, slice_set, if◌then◌else◌, Result, Ok, Err}
 use Rattle.ed_base.specs.declared.fault.Fault.{Fault}
 use Rattle.zones.specs.Name as name
 use Rattle.zones.specs.Name.{current_line, last_line, first_address, second_address, target_address, mark}
@@ -11,6 +11,7 @@ use Rattle.ed_rules.specs.declared.state.Undo.{Undo}
 use Rattle.ed_rules.specs.declared.state.State.{State}
 use Rattle.ed_rules.specs.Marks.{for_each_sure}
 use Rattle.ed_rules.specs.States.{changed, old_of, undo_to}
+use Rattle.ed_rules.specs.facts.Facts.{differ}
 
 -- what a need gives: the value where it is met, else its fault
 abbrev pub needing : {A : Type 0} → Bool → Fault → A → Result A Fault
@@ -76,6 +77,12 @@ lifted x zone =
 
 -- REPL
 
+-- Single lines are followed, one line is addressed, and a pattern is known to match it and not the letter's line, or that and not it. Facts go
+-- by the zone `before`, with which the rule began: on the way some letters have their new numbers, and facts are still of the old ones.
+abbrev pub is_told_apart : (before : Bounds) → (letter : ℕ) → State → Bool
+is_told_apart before letter s =
+    s.follows && (known before second_address first_address (pos 0) && differ before s.facts (mark letter) first_address)
+
 -- the line of the letter is after the second address, and moves as the lines between become n
 unfoldable pub mark_moved : ℕ → ℕ → State → State
 mark_moved n letter s =
@@ -83,15 +90,21 @@ mark_moved n letter s =
     (after_shift s.zone (mark letter) (sum_of (least s.zone first_address second_address) (Some (pos n -ℤ pos 1)))
     (sum_of (greatest s.zone first_address second_address) (Some (pos n -ℤ pos 1)))) s
 
+-- The line x is before or after the one that becomes n lines: it stays, or moves as the lines after that one do.
+unfoldable pub moved_beside : ℕ → (x : ℕ) → Bounds → Bounds
+moved_beside zero x zone = after_shift zone x (Some (negsuc 0)) (Some (pos 0))
+moved_beside (suc n) x zone = after_shift zone x (Some (pos 0)) (Some (pos n))
+
 -- the line of the letter may be gone
 unfoldable pub mark_lost : ℕ → State → State
 mark_lost letter s = record s { zone = after_forget s.zone (mark letter); marks = slice_set s.marks letter false }
 
 -- one letter of the replacement of the addressed lines by n lines
-unfoldable pub mark_replaced : ℕ → ℕ → State → State
-mark_replaced n letter s =
+unfoldable pub mark_replaced : (before : Bounds) → ℕ → ℕ → State → State
+mark_replaced before n letter s =
     if known s.zone (mark letter) first_address (negsuc 0) then s
     else if known s.zone second_address (mark letter) (negsuc 0) then mark_moved n letter s
+    else if is_told_apart before letter s then with_zone (moved_beside n (mark letter) s.zone) s
     else mark_lost letter s
 
 -- the target becomes the number of lines that are left: the first address less the second is from low to high, the last line less the second is
@@ -126,5 +139,5 @@ current_replaced (suc n) zone = after_set zone current_line first_address (pos n
 -- the addressed lines are replaced by n lines
 unfoldable pub replaced : ℕ → State → State
 replaced n s =
-    let marked = for_each_sure (mark_replaced n) s.marks 26 s in
+    let marked = for_each_sure (mark_replaced s.zone n) s.marks 26 s in
     with_zone (after_set (current_replaced n (left_over s.zone marked.zone)) last_line target_address (pos n)) marked

@@ -19,9 +19,9 @@ use Rattle.ed_rules.specs.Choices.{Choice}
 use Rattle.ed_rules.specs.Texts.{is_member}
 use Rattle.ed_rules.specs.StandsFor.{ends_line}
 use Rattle.ed_rules.specs.Order.{join}
-use Rattle.ed_rules.specs.Pieces.{needing, with_zone, guarded_by, modified, mark_lost}
+use Rattle.ed_rules.specs.Pieces.{needing, with_zone, guarded_by, modified, is_told_apart, mark_lost}
 use Rattle.ed_rules.specs.Addresses.{is_always, possible_patterns}
-use Rattle.ed_rules.specs.facts.Facts.{LineFact, at, le, tells}
+use Rattle.ed_rules.specs.facts.Facts.{LineFact, Facts, at, le, tells}
 use Rattle.ed_rules.specs.facts.FoundLines.{matches_it}
 
 -- WHAT IT NEEDS
@@ -92,16 +92,31 @@ is_sure_of_some s choice = s.follows && (list_all (matches_some s) s.patterns &&
 
 -- WHAT IT LEAVES
 
--- One mark: after the lines it stays, or goes down by what splits may add; before them it stays; among them it may be lost.
-unfoldable pub mark_substituted : (splits : Bool) → ℕ → State → State
-mark_substituted splits letter s =
-    if known s.zone second_address (mark letter) (negsuc 0)
-    then (if splits then with_zone (after_shift s.zone (mark letter) (Some (pos 0)) None) s else s)
+-- a mark stays, or goes down by what splits may add
+abbrev pub mark_kept : (splits : Bool) → ℕ → State → State
+mark_kept splits letter s = if splits then with_zone (after_shift s.zone (mark letter) (Some (pos 0)) None) s else s
+
+-- the pattern is known not to match the line of the letter
+abbrev pub is_told_not_to_match : (before : Bounds) → Facts → (letter : ℕ) → Choice → Bool
+is_told_not_to_match before facts letter None = false
+is_told_not_to_match before facts letter (Some text) = tells before facts (mark letter) text false
+
+-- The line of the letter surely isn't changed: it is told from the one that is addressed, or single lines are followed and no pattern that may
+-- be looked for matches it.
+abbrev pub is_left_alone : (before : Bounds) → (letter : ℕ) → State → Bool
+is_left_alone before letter s =
+    is_told_apart before letter s || (s.follows && list_all (is_told_not_to_match before s.facts letter) s.patterns)
+
+-- One mark: before the lines it stays; after them, or where its line surely isn't changed, it stays or goes down; else it may be lost.
+unfoldable pub mark_substituted : (before : Bounds) → (splits : Bool) → ℕ → State → State
+mark_substituted before splits letter s =
+    if known s.zone second_address (mark letter) (negsuc 0) then mark_kept splits letter s
     else if known s.zone (mark letter) first_address (negsuc 0) then s
+    else if is_left_alone before letter s then mark_kept splits letter s
     else mark_lost letter s
 
 abbrev pub marks_substituted : (splits : Bool) → State → State
-marks_substituted splits s = for_each_sure (mark_substituted splits) s.marks 26 s
+marks_substituted splits s = for_each_sure (mark_substituted s.zone splits) s.marks 26 s
 
 -- where lines may be split: there may be more of them; the current one isn't before the second address, and as far from the last
 -- one as that was

@@ -7,13 +7,14 @@ ghost use Rattle.ed_rules.specs.facts.EditedFacts.{edit_of, reading, copying};
 ghost use Rattle.ed_rules.specs.facts.NewLines.{fresh_of};
 ghost use Rattle.ed_rules.specs.Matching.{joining_given};
 ghost use Rattle.ed_syntax.specs.PublicTypes.{addresses_value, verb_value};
-ghost use Rattle.ed_rules.specs.FactsAfter.{facts_ended, facts_as, facts_inserted, facts_edited, facts_appended, facts_put_before, facts_changed, facts_joined, facts_moved, facts_substituted, facts_left};
+ghost use Rattle.ed_rules.specs.FactsAfter.{facts_ended, facts_as, facts_inserted, facts_edited, facts_appended, facts_put_before, facts_changed, facts_maybe_joined, facts_joined, facts_moved, facts_spared, facts_substituted, facts_left};
 
 use crate::line_facts::LineFacts;
 use crate::line_facts::edited::Gap;
 use crate::line_facts::new_lines::NewLines;
 use crate::marks::Marks;
 use crate::matching::{Certainty, joining_given};
+use crate::order::facts_of_both;
 use crate::state::{Old, State};
 use crate::watch::Watch;
 use ed_base::{Text, Texts};
@@ -105,6 +106,20 @@ impl Old {
         }
     }
 
+    /// Two or more lines are joined, or one isn't.
+    #[tactic(auto, unfolding(crate::specs::FactsAfter::facts_maybe_joined))]
+    fn facts_maybe_joined(&self, alloc: Global, after: &Marks) -> Result<LineFacts, AllocError>
+        ensures value { IfOk result (λ facts. facts ≡ facts_maybe_joined self.now after.now) }
+    {
+        let (first, last) = (Name::FIRST_ADDRESS, Name::SECOND_ADDRESS);
+        let mut many = self.try_copy()?;
+        many.zone.guard(first, last, -1);
+        let joined = many.facts_untested(alloc, NewLines::One, after)?;
+        let mut one_line = self.zone;
+        one_line.guard(last, first, 0);
+        facts_of_both(after, &joined, &one_line, &self.facts)
+    }
+
     /// `j`
     fn facts_joined(
         &self,
@@ -118,8 +133,17 @@ impl Old {
         match joining_given(given, &self.zone) {
             Certainty::Never => self.facts.try_copy(),
             Certainty::Surely => self.facts_untested(alloc, NewLines::One, after),
-            Certainty::Maybe => Ok(LineFacts::none(alloc)),
+            Certainty::Maybe => self.facts_maybe_joined(alloc, after),
         }
+    }
+
+    /// Each addressed line stays, or gives way to one other.
+    #[tactic(auto, unfolding(crate::specs::FactsAfter::facts_spared))]
+    fn facts_spared(&self, alloc: Global, after: &State) -> Result<LineFacts, AllocError>
+        ensures value { IfOk result (λ facts. facts ≡ facts_spared self.now after.now) }
+    {
+        let patterns = self.facts.patterns(alloc)?;
+        self.substituted(alloc, &after.patterns, &after.marks, &patterns)
     }
 
     /// `s`, which makes the state `after`. In a list it may leave a line as it is.
@@ -132,12 +156,12 @@ impl Old {
         ensures value { IfOk result (λ facts. facts ≡ facts_substituted listed self.now after.now) }
     {
         let (first, last) = (Name::FIRST_ADDRESS, Name::SECOND_ADDRESS);
-        if listed || !self.zone.is_known(last, first, 0) {
-            Ok(LineFacts::none(alloc))
-        } else if after.replacements.split {
-            self.facts_untested(alloc, NewLines::Any, &after.marks)
-        } else {
-            self.facts_untested(alloc, NewLines::One, &after.marks)
+        let is_line = !listed && self.zone.is_known(last, first, 0);
+        match (is_line, after.replacements.split) {
+            (true, true) => self.facts_untested(alloc, NewLines::Any, &after.marks),
+            (true, false) => self.facts_untested(alloc, NewLines::One, &after.marks),
+            (false, true) => Ok(LineFacts::none(alloc)),
+            (false, false) => self.facts_spared(alloc, after),
         }
     }
 
@@ -243,6 +267,7 @@ impl Old {
             Verb::WriteFile(_) | Verb::FileName(_) | Verb::Quit | Verb::QuitAnyway => {
                 self.facts.try_copy()
             }
+            Verb::Global { .. } => self.facts.try_copy(),
             Verb::Undo => after.facts.try_copy(),
             _ => Ok(LineFacts::none(alloc)),
         }

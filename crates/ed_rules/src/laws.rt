@@ -9,7 +9,7 @@ ghost use Rattle.ed_rules.specs.Matched.{watched};
 ghost use Rattle.ed_rules.specs.Order.{join, widen, Covers};
 ghost use Rattle.ed_rules.specs.Rules.{step, fault_of};
 ghost use Rattle.ed_rules.specs.StandsFor.{StandsFor};
-ghost use Rattle.std.specs.Prelude.{◌≡◌, ℕ, negsuc, Bool, false, ◌&&◌, List, [], ◌∷◌, All, Option, IfOk};
+ghost use Rattle.std.specs.Prelude.{◌≡◌, ℕ, negsuc, Bool, false, ◌&&◌, List, [], ◌∷◌, All, Option, Some, IfOk, IfSome};
 ghost use Rattle.std.specs.List.{list_all};
 ghost use Rattle.zones.specs.Known.{known};
 ghost use Rattle.zones.specs.Name as name;
@@ -20,8 +20,8 @@ ghost use Rattle.ed_syntax.specs.declared.replacement.Which.{Which};
 ghost use Rattle.ed_syntax.specs.Commands.{Verb, Command, Step, Script};
 ghost use Rattle.ed_rules.specs.Soundness.{CommandIsSound};
 ghost use Rattle.ed_rules.specs.ExactRules.{CommandIsExact, StartIsExact};
-ghost use Rattle.ed_rules.specs.Globals.{body_entry, loop_end};
-ghost use Rattle.ed_rules.specs.GlobalSoundness.{StartIsSound, TurnIsSound, EndIsSound, FlagsAreKept, NoFlagsAreKept, TakenHaveFlags};
+ghost use Rattle.ed_rules.specs.Globals.{body_entry, once_entry, loop_end};
+ghost use Rattle.ed_rules.specs.GlobalSoundness.{StartIsSound, TurnIsSound, OnceIsSound, EndIsSound, FlagsAreKept, NoFlagsAreKept, TakenHaveFlags, NoneAreLeft};
 
 use ed_syntax::{
     answers_are_asked_for, commands_are_placed, commands_keep_lines, commands_keep_marks,
@@ -43,9 +43,11 @@ pub fn commands_are_sound()
 pub fn globals_are_sound()
     ensures start { StartIsSound }
     ensures turn { (verb : Verb) (invariant : State) → TurnIsSound verb invariant (body_entry verb invariant) }
+    ensures once { (c : Command) (invariant entry : State) → once_entry c invariant ≡ Some entry → OnceIsSound c invariant entry }
     ensures flags { FlagsAreKept }
     ensures no_flags { NoFlagsAreKept }
     ensures taken { TakenHaveFlags }
+    ensures none { NoneAreLeft }
     ensures end { (x : Step) (before invariant : State) →
         EndIsSound x before invariant (loop_end x before invariant) }
 {
@@ -97,6 +99,7 @@ pub fn states_stay_formed()
 
     // Of a global command: the state in which its list is run, and that after its last line.
     ensures entry { (verb : Verb) (invariant : State) → IsFormed invariant → IsEnded (body_entry verb invariant) }
+    ensures once { (c : Command) (invariant : State) → IsFormed invariant → IfSome (once_entry c invariant) IsEnded }
     ensures end { (x : Step) (before invariant : State) → IsFormed before → IsFormed invariant →
         IsEnded (loop_end x before invariant) }
 {}
@@ -118,6 +121,8 @@ pub fn matches_stay_formed()
     ensures widen { (old new : State) → MatchesAreFormed old → MatchesAreFormed new → MatchesAreFormed (widen old new) }
     ensures entry { (verb : Verb) (invariant : State) → VerbIsBytes verb → MatchesAreFormed invariant →
         MatchesAreFormed (body_entry verb invariant) }
+    ensures once { (c : Command) (invariant : State) → VerbIsBytes c.verb → MatchesAreFormed invariant →
+        IfSome (once_entry c invariant) MatchesAreFormed }
     ensures end { (x : Step) (before invariant : State) → MatchesAreFormed before → MatchesAreFormed invariant →
         MatchesAreFormed (loop_end x before invariant) }
 

@@ -24,6 +24,7 @@ mod order;
 mod pieces;
 mod rules;
 mod state;
+mod substituted_marks;
 mod substitution;
 mod undoing;
 mod watch;
@@ -36,7 +37,7 @@ pub use fact_laws::{
     only_lines_are_taken_once, searches_find_the_first, searches_find_what_facts_say,
     substituted_facts_are_true, weaker_facts_hold_more, what_facts_say_is_true,
 };
-pub use globals::{body_entry, loop_end, loop_start};
+pub use globals::{body_entry, loop_end, loop_start, once_entry};
 pub use kept::KeptState;
 pub use kept_undo::{KeptOld, KeptUndo};
 pub use known_matches::Matches;

@@ -6,15 +6,16 @@ mod carried;
 mod copies;
 pub(crate) mod edited;
 mod forward;
-mod found;
+pub(crate) mod found;
 mod known;
 pub(crate) mod new_lines;
 mod order;
 mod pruned;
+mod substituted;
 
 ghost use Rattle.std.specs.Prelude.{◌≡◌, ◌<◌, ◌↔◌, [], IsTrue, IfOk, OnOk, OnErr};
 ghost use Rattle.ed_rules.specs.facts.Facts.{no_facts};
-ghost use Rattle.ed_rules.specs.facts.FoundLines.{without, with_match, with_stretch};
+ghost use Rattle.ed_rules.specs.facts.FoundLines.{without, with_answer, with_match, with_stretch};
 
 pub use assigned::{assign, move_by};
 pub use backward::search_backward;
@@ -22,7 +23,7 @@ use ed_base::Bytes;
 pub use forward::search_forward;
 pub use found::is_witnessed;
 pub(crate) use found::matches_it;
-pub(crate) use known::is_at_most;
+pub(crate) use known::{are_same, is_at_most};
 use std::alloc::{AllocError, Global};
 use std::marker::Model;
 use zones::Name;
@@ -121,19 +122,32 @@ impl LineFacts {
             .retain(|stretch| stretch.after != edge && stretch.before != edge);
     }
 
-    /// The line x matches the pattern. After an `Err` all is as it was.
-    pub(crate) fn add_match(&mut self, x: Name, pattern: &[u8]) -> Result<(), AllocError>
-        ensures value { OnOk result (self.new ≡ with_match x pattern.now self.old) }
+    /// The line x matches the pattern, or it doesn't. After an `Err` all is as it was.
+    pub(crate) fn add_answer(
+        &mut self,
+        x: Name,
+        pattern: &[u8],
+        matches: bool,
+    ) -> Result<(), AllocError>
+        ensures value { OnOk result (self.new ≡ with_answer x pattern.now matches self.old) }
         ensures unchanged { OnErr result (self.new ≡ self.old) }
     {
         let pattern = Bytes::from_slice(*self.lines.allocator(), pattern)?;
         let fact = KnownLine {
             name: x,
             pattern,
-            matches: true,
+            matches,
         };
         self.lines.insert(0, fact)?;
         Ok(())
+    }
+
+    /// The line x matches the pattern. After an `Err` all is as it was.
+    pub(crate) fn add_match(&mut self, x: Name, pattern: &[u8]) -> Result<(), AllocError>
+        ensures value { OnOk result (self.new ≡ with_match x pattern.now self.old) }
+        ensures unchanged { OnErr result (self.new ≡ self.old) }
+    {
+        self.add_answer(x, pattern, true)
     }
 
     /// No line between these two matches the pattern. After an `Err` all is as it was.

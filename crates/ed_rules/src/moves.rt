@@ -2,9 +2,10 @@
 
 ghost use Rattle.std.specs.Prelude.{◌≡◌, ◌+ℤ◌, ◌≤ℤ◌, ◌^◌, pos};
 ghost use Rattle.ed_rules.specs.Marks.{for_each_sure};
-ghost use Rattle.ed_rules.specs.Move.{less, mark_moved_up, mark_moved_down, mark_moved, moved_up, moved_down, moved_lines};
+ghost use Rattle.ed_rules.specs.Move.{less, mark_moved_up, mark_moved_down, mark_moved, moved_up, moved_down, moved_either, is_target_told_apart, moved_lines};
 ghost use Rattle.ed_rules.specs.Reaching.{Reaches};
 
+use crate::line_facts::are_same;
 use crate::marks::Marks;
 use crate::pieces::plus;
 use crate::state::State;
@@ -124,7 +125,33 @@ fn move_down(before: &Zone, marks: &Marks) -> Zone
     zone
 }
 
+/// The target is above the lines or after them.
+#[tactic(auto, unfolding(crate::specs::Move::moved_either))]
+fn move_either(before: &Zone, marks: &Marks) -> Zone
+    ensures exact { result ≡ moved_either marks.now before.now }
+{
+    let mut guarded = *before;
+    guarded.guard(Name::TARGET_ADDRESS, Name::FIRST_ADDRESS, -1);
+    let mut zone = move_up(&guarded, marks);
+    guarded.copy_from(before);
+    guarded.guard(Name::SECOND_ADDRESS, Name::TARGET_ADDRESS, -1);
+    zone.join(&move_down(&guarded, marks));
+    zone
+}
+
 impl State {
+    /// Whether single lines are followed, one line is moved, and it is told from the target's line.
+    fn is_target_told_apart(&self) -> bool
+        ensures value { result ≡ is_target_told_apart self.now }
+    {
+        let (first, last) = (Name::FIRST_ADDRESS, Name::SECOND_ADDRESS);
+        let target = Name::TARGET_ADDRESS;
+        self.follows
+            && self.zone.is_known(last, first, 0)
+            && !are_same(&self.zone, target, first)
+            && self.facts.differ(&self.zone, target, first)
+    }
+
     /// `m`
     pub(crate) fn move_lines(&mut self, listed: bool, before: &State) -> Result<(), Fault>
         ensures exact { Reaches result self.new (moved_lines listed before.now self.old) }
@@ -139,6 +166,8 @@ impl State {
             .is_known(Name::SECOND_ADDRESS, Name::TARGET_ADDRESS, -1)
         {
             self.zone = move_down(&self.zone, &self.marks);
+        } else if self.is_target_told_apart() {
+            self.zone = move_either(&self.zone, &self.marks);
         } else {
             return Err(Fault::Destination);
         }

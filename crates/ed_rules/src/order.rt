@@ -149,7 +149,7 @@ pub(crate) fn undo_of_both(one: &Undo, other: &Undo) -> Result<Undo, AllocError>
 }
 
 /// Of the facts of one side those that the other side says too, of letters that are sure on both.
-fn facts_of_both(
+pub(crate) fn facts_of_both(
     marks: &Marks,
     one: &LineFacts,
     zone: &Zone,

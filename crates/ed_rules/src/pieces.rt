@@ -7,7 +7,7 @@ ghost use Rattle.zones.specs.Zone.{bound};
 ghost use Rattle.zones.specs.Known.{least, greatest};
 ghost use Rattle.zones.specs.Steps.{after_shift};
 ghost use Rattle.ed_rules.specs.Marks.{for_each_sure};
-ghost use Rattle.ed_rules.specs.Pieces.{guarded_by, without_addresses, mark_bounded, ended, mark_pushed, inserted, lifted, left_by, current_left, current_replaced};
+ghost use Rattle.ed_rules.specs.Pieces.{guarded_by, without_addresses, mark_bounded, ended, mark_pushed, inserted, lifted, moved_beside, left_by, current_left, current_replaced};
 
 use crate::marks::Marks;
 use ed_base::Letter;
@@ -167,6 +167,19 @@ pub(crate) fn move_mark(zone: &mut Zone, count: usize, letter: Letter)
     let high = zone.bound(Name::FIRST_ADDRESS, Name::SECOND_ADDRESS);
     let growth = count as i128 - 1;
     zone.shift_wide(Name::of(letter), plus(low, growth), plus(high, growth));
+}
+
+/// A mark beside the one line that becomes `count` lines, before or after it.
+#[tactic(auto, unfolding(crate::specs::Pieces::moved_beside))]
+pub(crate) fn move_mark_beside(zone: &mut Zone, count: usize, letter: Letter)
+    ensures exact { zone.new ≡ moved_beside count (mark letter) zone.old }
+{
+    let mark = Name::of(letter);
+    if count == 0 {
+        zone.shift(mark, Some(-1), Some(0));
+    } else {
+        zone.shift_wide(mark, Some(0), Some((count - 1) as i128));
+    }
 }
 
 /// How far the addresses and the last line lie from each other, where a zone says it.

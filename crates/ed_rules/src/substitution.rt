@@ -4,18 +4,16 @@ ghost use Rattle.std.specs.Prelude.{◌≡◌, pos, None, Some, IfOk, OnOk};
 ghost use Rattle.std.specs.List.{list_all, list_any};
 ghost use Rattle.zones.specs.Name.{last_line};
 ghost use Rattle.zones.specs.Steps.{after_shift};
-ghost use Rattle.ed_rules.specs.Marks.{for_each_sure};
 ghost use Rattle.ed_rules.specs.StandsFor.{ends_line};
-ghost use Rattle.ed_rules.specs.Substituting.{kind_of, replacement_used, pattern_used, takes_first, is_known_line, matches_each, is_sure_to_match, takes_all, is_match_among, is_matched_among, matches_some, is_sure_of_some, mark_substituted, current_split, current_within, surely_substituted, partly_substituted, substituted};
+ghost use Rattle.ed_rules.specs.Substituting.{kind_of, replacement_used, pattern_used, takes_first, is_known_line, matches_each, is_sure_to_match, takes_all, is_match_among, is_matched_among, matches_some, is_sure_of_some, current_split, current_within, surely_substituted, partly_substituted, substituted};
 ghost use Rattle.ed_rules.specs.Reaching.{Reaches};
 
 use crate::addresses::choice_matches_always;
 use crate::choices::Choices;
 use crate::line_facts::{KnownLine, LineFacts, is_at_most, matches_it};
-use crate::marks::Marks;
 use crate::pieces::{guard_by, wide};
 use crate::state::{Replacements, State};
-use ed_base::{Bytes, Fault, Letter};
+use ed_base::{Bytes, Fault};
 use ed_syntax::{Part, Pattern, Replacement, Which};
 use std::alloc::AllocError;
 use zones::{Name, Zone};
@@ -250,31 +248,6 @@ impl State {
         Ok(some && takes_first(which))
     }
 
-    #[tactic(auto, unfolding(crate::specs::Substituting::mark_substituted))]
-    fn substitute_mark(&mut self, splits: bool, letter: Letter)
-        ensures exact { self.new ≡ mark_substituted splits letter self.old }
-    {
-        let mark = Name::of(letter);
-        if self.zone.is_known(Name::SECOND_ADDRESS, mark, -1) {
-            if splits {
-                self.zone.shift(mark, Some(0), None);
-            }
-        } else if !self.zone.is_known(mark, Name::FIRST_ADDRESS, -1) {
-            self.lose_mark(letter);
-        }
-    }
-
-    fn substitute_marks(&mut self, splits: bool, marks: &Marks)
-        ensures exact { self.new ≡ for_each_sure (mark_substituted splits) marks.now 26 self.old }
-    {
-        for place in 0..Letter::COUNT {
-            let letter = Letter::at(place);
-            if marks.is_sure(letter) {
-                self.substitute_mark(splits, letter);
-            }
-        }
-    }
-
     /// A substitution in each of the lines.
     #[tactic(auto, unfolding(crate::specs::Substituting::surely_substituted))]
     fn substitute_surely(&mut self, listed: bool, start: &State) -> Result<(), AllocError>
@@ -283,7 +256,7 @@ impl State {
         let splits = self.replacements.split;
         let old = self.zone;
         let marks = self.marks;
-        self.substitute_marks(splits, &marks);
+        self.substitute_marks(&old, splits, &marks);
         if splits {
             set_current_split(&mut self.zone, &old);
         } else {
@@ -298,8 +271,9 @@ impl State {
         ensures exact { OnOk result (self.new ≡ partly_substituted listed before.now self.old) }
     {
         let split = self.replacements.split;
+        let old = self.zone;
         let marks = self.marks;
-        self.substitute_marks(split, &marks);
+        self.substitute_marks(&old, split, &marks);
         set_current_within(&mut self.zone, split);
         self.modify(listed, before)
     }

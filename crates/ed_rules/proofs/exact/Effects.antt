@@ -1,5 +1,7 @@
 -- What exact commands do: the state after a rule tells all of what the command leaves.
 use Rattle.std.proofs.Common.{◌≡◌, ◌<◌, ◌≤◌, ◌+◌, ◌-◌, ℕ, suc, min, ℤ, pos, negsuc, ◌+ℤ◌, Bool, true, false, List, [], ◌∷◌, length, map, Some, Result, Ok, Err, arith, refl, ◌∙◌, ap, sym, subst, inl, inr}
+use Rattle.std.proofs.Common.{◌&&◌, not}
+use Rattle.std.specs.Prelude.{◌⊎◌}
 use Rattle.std.proofs.lemmas.Int.{ints}
 use Rattle.std.proofs.lemmas.Bool.{cases_lt, le-leb}
 use Rattle.std.proofs.lemmas.List.{length-map}
@@ -23,7 +25,8 @@ use Rattle.ed_rules.specs.declared.state.State.{State}
 use Rattle.ed_rules.specs.Marks.{no_marks, for_each_sure}
 use Rattle.ed_rules.specs.Pieces.{with_zone, modified, inserted, left_over, current_replaced, replaced, mark_replaced}
 use Rattle.ed_rules.specs.Lines.{appended, put_before, current_inserted, changed_to, deleted, joined, copied_lines, current_at}
-use Rattle.ed_rules.specs.Move.{moved_up, moved_down, moved_zone, moved_lines}
+use Rattle.ed_rules.specs.Move.{moved_up, moved_down, is_target_told_apart, moved_zone, moved_lines}
+use Rattle.ed_rules.specs.facts.Facts.{differ}
 use Rattle.ed_rules.specs.LineBounds.{most_lines}
 use Rattle.ed_rules.specs.ExactRules.{EndAlike}
 use Rattle.ed_rules.proofs.exact.EndAlike.{EndAlike-ok, EndAlike-fault}
@@ -148,7 +151,7 @@ replaced-is : (n : ℕ) (t : State) → t.marks ≡ no_marks →
 unfolding replaced
 replaced-is n t none =
     ap (λ (u : State). with_zone (after_set (current_replaced n (left_over t.zone u.zone)) 2 5 (pos n)) u)
-    (ap (λ (ms : List Bool). for_each_sure (mark_replaced n) ms 26 t) none ∙ for_each_sure-no_marks (mark_replaced n) 26 t (omega arith))
+    (ap (λ (ms : List Bool). for_each_sure (mark_replaced t.zone n) ms 26 t) none ∙ for_each_sure-no_marks (mark_replaced t.zone n) 26 t (omega arith))
 
 -- `d`
 pub delete-leaves : (listed : Bool) (s : State) (start : editor.State) (t : State) (e : editor.State) (x : Span) → Spans e 5 (pos 0) t x →
@@ -271,16 +274,27 @@ null-leaves listed start t e x output r same few =
     (omega arith) (omega arith) (omega (arith, ints)) (small-line x.last (omega arith))) r.inside
 
 -- `m`
-moved_zone-up : (marks : List Bool) (zone : Bounds) → known zone 5 3 (negsuc 0) ≡ true → moved_zone marks zone ≡ Ok (moved_up marks zone)
-moved_zone-up marks zone e = rw e refl
+moved_zone-up : (apart : Bool) (marks : List Bool) (zone : Bounds) → known zone 5 3 (negsuc 0) ≡ true →
+    moved_zone apart marks zone ≡ Ok (moved_up marks zone)
+moved_zone-up apart marks zone e = rw e refl
 
-moved_zone-down : (marks : List Bool) (zone : Bounds) → known zone 5 3 (negsuc 0) ≡ false → known zone 4 5 (negsuc 0) ≡ true →
-    moved_zone marks zone ≡ Ok (moved_down marks zone)
-moved_zone-down marks zone e f = rw (e, f) refl
+moved_zone-down : (apart : Bool) (marks : List Bool) (zone : Bounds) → known zone 5 3 (negsuc 0) ≡ false → known zone 4 5 (negsuc 0) ≡ true →
+    moved_zone apart marks zone ≡ Ok (moved_down marks zone)
+moved_zone-down apart marks zone e f = rw (e, f) refl
 
-moved_zone-refused : (marks : List Bool) (zone : Bounds) → known zone 5 3 (negsuc 0) ≡ false → known zone 4 5 (negsuc 0) ≡ false →
-    moved_zone marks zone ≡ Err fault.Destination
-moved_zone-refused marks zone e f = rw (e, f) refl
+moved_zone-refused : (apart : Bool) (marks : List Bool) (zone : Bounds) → known zone 5 3 (negsuc 0) ≡ false →
+    known zone 4 5 (negsuc 0) ≡ false → apart ≡ false → moved_zone apart marks zone ≡ Err fault.Destination
+moved_zone-refused apart marks zone e f g = rw (e, f, g) refl
+
+-- a target that is known to be the moved line isn't told apart, nor one among several
+apart-no : (follows one up down told : Bool) → (one ≡ false) ⊎ ((up ≡ true) × (down ≡ true)) → follows && (one && (not (up && down) && told)) ≡ false
+apart-no false one up down told why = refl
+apart-no true false up down told why = refl
+apart-no true true true true told why = refl
+apart-no true true false down told (inl e) = cc
+apart-no true true false down told (inr e) = let k = e.0 in cc
+apart-no true true true false told (inl e) = cc
+apart-no true true true false told (inr e) = let k = e.1 in cc
 
 move-refused : (x : Span) (target : ℕ) (e : editor.State) → x.first ≤ target → target ≤ x.last →
     effects.move x target e ≡ Err fault.Destination
@@ -294,7 +308,7 @@ module _ (listed : Bool) (s : State) (start : editor.State) (t : State) (e : edi
   l : ℤ
   l = pos (length e.lines)
 
-  moved-by : (zone : Bounds) → moved_zone t.marks t.zone ≡ Ok zone → moved_lines listed s t ≡ Ok (modified listed s (with_zone zone t))
+  moved-by : (zone : Bounds) → moved_zone (is_target_told_apart t) t.marks t.zone ≡ Ok zone → moved_lines listed s t ≡ Ok (modified listed s (with_zone zone t))
   moved-by zone is = ap (λ (z : Result Bounds Fault). z >> λ y. Ok (modified listed s (with_zone y t))) is
 
   move-up : target < x.first → EndAlike (Leaves listed start) (moved_lines listed s t) (making (effects.move x target e))
@@ -323,7 +337,7 @@ module _ (listed : Bool) (s : State) (start : editor.State) (t : State) (e : edi
       (Makes (effects.altered lines current e))
       (moved_lines listed s t) (making (effects.move x target e))
       (moved-by (moved_up t.marks t.zone)
-      (moved_zone-up t.marks t.zone
+      (moved_zone-up (is_target_told_apart t) t.marks t.zone
       (At-knows t.zone 6 (pos e.current) (pos (length e.lines)) (pos x.first) (pos x.last) (pos target) 5 3 (negsuc 0) z (omega arith)
       (omega arith) (omega arith) (omega arith) (omega (arith, ints)))))
       (ap (λ (y : Result Outcome Fault). making y) (move-up-is x target e h order))
@@ -357,7 +371,7 @@ module _ (listed : Bool) (s : State) (start : editor.State) (t : State) (e : edi
       EndAlike-ok (Leaves listed start) (modified listed s (with_zone (moved_down t.marks t.zone) t))
       (Makes (effects.altered lines current e))
       (moved_lines listed s t) (making (effects.move x target e))
-      (moved-by (moved_down t.marks t.zone) (moved_zone-down t.marks t.zone
+      (moved-by (moved_down t.marks t.zone) (moved_zone-down (is_target_told_apart t) t.marks t.zone
       (At-denies t.zone 6 (pos e.current) (pos (length e.lines)) (pos x.first) (pos x.last) (pos target) 5 3 (negsuc 0) z (omega arith)
       (omega arith) (omega arith) (omega arith) (omega (arith, ints)))
       (At-knows t.zone 6 (pos e.current) (pos (length e.lines)) (pos x.first) (pos x.last) (pos target) 4 5 (negsuc 0) z (omega arith)
@@ -365,6 +379,21 @@ module _ (listed : Bool) (s : State) (start : editor.State) (t : State) (e : edi
       (ap (λ (y : Result Outcome Fault). making y) (move-down-is x target e order h))
       (λ few. altered-seen listed s t start e 6 6 (pos x.first) (pos x.last) (pos target) (pos x.first) (pos x.last) (pos target)
       (moved_down t.marks t.zone) lines current r.sees (omega arith) down3 (omega arith) (omega arith))
+
+  not-apart : x.first ≤ target → target ≤ x.last → is_target_told_apart t ≡ false
+  not-apart low high =
+      let z = r.sees.zone in
+      apart-no t.follows (known t.zone 4 3 (pos 0)) (known t.zone 5 3 (pos 0)) (known t.zone 3 5 (pos 0)) (differ t.zone t.facts 5 3)
+      (elim (cases_lt x.first x.last) [
+        | inl several ↦ inl (At-denies t.zone 6 (pos e.current) (pos (length e.lines)) (pos x.first) (pos x.last) (pos target) 4 3 (pos 0) z (omega arith)
+            (omega arith) (omega arith) (omega arith) (omega (arith, ints)))
+        | inr one ↦ inr (
+          At-knows t.zone 6 (pos e.current) (pos (length e.lines)) (pos x.first) (pos x.last) (pos target) 5 3 (pos 0) z (omega arith)
+              (omega arith) (omega arith) (omega arith) (omega (arith, ints)),
+          At-knows t.zone 6 (pos e.current) (pos (length e.lines)) (pos x.first) (pos x.last) (pos target) 3 5 (pos 0) z (omega arith)
+              (omega arith) (omega arith) (omega arith) (omega (arith, ints)),
+        )
+      ])
 
   pub move-leaves : EndAlike (Leaves listed start) (moved_lines listed s t) (making (effects.move x target e))
   move-leaves = elim (cases_lt target x.first) [
@@ -374,11 +403,11 @@ module _ (listed : Bool) (s : State) (start : editor.State) (t : State) (e : edi
       | inr not_down ↦
           let z = r.sees.zone in
           EndAlike-fault (Leaves listed start) fault.Destination (moved_lines listed s t) (making (effects.move x target e))
-          (ap (λ (y : Result Bounds Fault). y >> λ w. Ok (modified listed s (with_zone w t))) (moved_zone-refused t.marks t.zone
+          (ap (λ (y : Result Bounds Fault). y >> λ w. Ok (modified listed s (with_zone w t))) (moved_zone-refused (is_target_told_apart t) t.marks t.zone
           (At-denies t.zone 6 (pos e.current) (pos (length e.lines)) (pos x.first) (pos x.last) (pos target) 5 3 (negsuc 0) z (omega arith)
           (omega arith) (omega arith) (omega arith) (omega (arith, ints)))
           (At-denies t.zone 6 (pos e.current) (pos (length e.lines)) (pos x.first) (pos x.last) (pos target) 4 5 (negsuc 0) z (omega arith)
-          (omega arith) (omega arith) (omega arith) (omega (arith, ints)))))
+          (omega arith) (omega arith) (omega arith) (omega (arith, ints))) (not-apart not_up not_down)))
           (ap (λ (y : Result Outcome Fault). making y) (move-refused x target e not_up not_down))
     ]
   ]

@@ -9,12 +9,13 @@ use Rattle.std.proofs.lemmas.List.Folds.{flat_map-map}
 use Rattle.zones.specs.Zone.{Bounds}
 use Rattle.ed_syntax.specs.meaning.Values.{matches}
 use Rattle.ed_rules.specs.declared.line_facts.new_lines.Tested.{Tested}
-use Rattle.ed_rules.specs.declared.line_facts.edited.Kind.TheVariants.{Staying, Before, After, Carried}
+use Rattle.ed_rules.specs.declared.line_facts.edited.Kind.TheVariants.{Staying, Before, After, Carried, Spared}
 use Rattle.ed_rules.specs.declared.line_facts.edited.Look.{Look}
-use Rattle.ed_rules.specs.facts.Facts.{LineFact, Stretch, Facts, Point, same_text, at, point, end, le, below, spans, is_clear, tells, told}
+use Rattle.ed_rules.specs.facts.Facts.{LineFact, Stretch, Facts, Point, same_text, at, point, end, le, below, is_clear, tells, told}
 use Rattle.ed_rules.specs.facts.CarriedFacts.{stretch_carried, last_carried, carried_facts}
-use Rattle.ed_rules.specs.facts.EditedFacts.{Fresh, Edit, Between, edit_of, none_match, all_but_last, is_no, is_free, is_free_before_last, is_single, is_outside, stretch_stays, clear_before, clear_after, stretches, told_fact, of_last, of_last_known, last_edited, edited, entered_line}
-use Rattle.ed_rules.specs.facts.NewLines.{last_fresh, last_known, tested, is_yes, none_but_last, last_of, tested_by, clear_of, matched_in, look_at, is_clear_of, is_kept_by, is_left, left_from, left_of, last_left, edited_by, last_aside, carried_by}
+use Rattle.ed_rules.specs.facts.SubstitutedFacts.{is_spared, stretch_spared, substituted_facts}
+use Rattle.ed_rules.specs.facts.EditedFacts.{Fresh, Between, edit_of, none_match, all_but_last, is_no, is_free, is_free_before_last, is_single, is_outside, stretch_stays, clear_before, clear_after, stretches, told_fact, of_last, of_last_known, last_edited, edited, entered_line}
+use Rattle.ed_rules.specs.facts.NewLines.{last_fresh, last_known, tested, is_yes, none_but_last, last_of, tested_by, clear_of, matched_in, look_at, is_kept_by, is_left, left_of, last_left, edited_by, last_aside, carried_by, spared_by}
 
 -- LISTS
 
@@ -113,6 +114,14 @@ module _ (zone : Bounds) (facts : Facts) (gap : Between) (fresh : Option (List F
       let aside : Bool = (below zone y (at 3) && le zone y (at 5) (pos 0)) || (below zone (at 4) x && below zone (at 5) x) in
       λ i. not (after == before) && (all i || (some i && aside))
 
+  spared-is : (possible : List (List ℕ)) (p : List ℕ) (after before : ℕ) → stretch_spared zone facts possible [] (record { after = after; before = before; pattern = p }) ≡
+      is_left Spared zone facts gap possible (look_at facts fresh p) after before
+  spared-is possible p after before =
+      let x : Point = point after in
+      let y : Point = point before in
+      ap (λ (b : Bool). not (after == before) && (b && (le zone y (at 3) (pos 0) || (le zone (at 4) x (pos 0) || list_all (λ q. is_clear zone facts x y q) possible))))
+      (own-clear zone facts x y p)
+
   -- ALL PATTERNS
 
   abbrev stretch_at : (p : List ℕ) (after before : ℕ) → Stretch
@@ -149,6 +158,10 @@ module _ (zone : Bounds) (facts : Facts) (gap : Between) (fresh : Option (List F
   pub carried-left : (others : List (List ℕ)) (afters befores : List ℕ) → filter (stretch_carried zone facts) (stretches afters befores patterns) ≡
       flat_map (left_of Carried zone facts gap others afters befores) (map (look_at facts fresh) patterns)
   carried-left others afters befores = left-is (stretch_carried zone facts) (is_left Carried zone facts gap others) (carried-is others) afters befores
+
+  pub spared-left : (possible : List (List ℕ)) (afters befores : List ℕ) → filter (stretch_spared zone facts possible []) (stretches afters befores patterns) ≡
+      flat_map (left_of Spared zone facts gap possible afters befores) (map (look_at facts fresh) patterns)
+  spared-left possible afters befores = left-is (stretch_spared zone facts possible []) (is_left Spared zone facts gap possible) (spared-is possible) afters befores
 
   -- the last new line
   last-fresh : (x : ℕ) (new : List Fresh) → of_last x patterns new ≡ flat_map (λ p. told_fact x p (last_fresh p new)) patterns
@@ -210,6 +223,17 @@ carried-by zone facts gap others patterns kept =
       lines = own ++ (last i ++ told_last i);
       clear = filter (stretch_carried zone facts) (stretches (0 ∷ kept) (end ∷ kept) patterns);
     })
+
+-- LINES THAT ARE CHANGED WHERE THEY MATCH
+
+pub spared-by : (zone : Bounds) (facts : Facts) (gap : Between) (possible patterns : List (List ℕ)) (kept : List ℕ) →
+    spared_by zone facts gap possible kept (map (look_at facts (Some [])) patterns) ≡ substituted_facts zone facts possible [] kept patterns
+spared-by zone facts gap possible patterns kept =
+    let clear = spared-left zone facts gap (Some []) patterns possible (0 ∷ kept) (end ∷ kept) in
+    λ i. record {
+      lines = filter (λ (f : LineFact). (list_any (nat_eq f.name) kept || f.name == 2) && is_spared zone facts possible f.name) facts.lines;
+      clear = sym clear i;
+    }
 
 -- LINES THAT ARE ENTERED
 

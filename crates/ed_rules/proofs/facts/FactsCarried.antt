@@ -1,7 +1,6 @@
 -- `m`: what its rule says of lines is true of what it leaves.
-use Rattle.std.proofs.Common.{◌≡◌, ◌<◌, ◌≤◌, inl, inr, ℕ, ◌+◌, ◌-◌, pos, Bool, true, List, [], ◌∷◌, map, length, All, Some, refl, sym, ap, ◌∙◌, arith}
+use Rattle.std.proofs.Common.{◌≡◌, ◌<◌, ◌≤◌, inl, inr, ℕ, ◌+◌, ◌-◌, pos, Bool, List, map, length, All, Some, sym, ap, ◌∙◌, arith}
 use Rattle.std.specs.Prelude.{◌⊎◌}
-use Rattle.std.proofs.lemmas.Int.{ints}
 use Rattle.std.proofs.lemmas.Bool.{cases_lt}
 use Rattle.std.proofs.lemmas.List.Elements.{All-map, All-weaker}
 use Rattle.zones.specs.Name.{mark}
@@ -16,7 +15,7 @@ use Rattle.ed_rules.specs.facts.Facts.{Facts, FactsHold}
 use Rattle.ed_rules.specs.facts.EditedFacts.{reading}
 use Rattle.ed_rules.specs.facts.EditHolds.{LetterStays, Takes}
 use Rattle.ed_rules.specs.facts.CarriedFacts.{carried_to, carried_facts}
-use Rattle.ed_rules.specs.facts.CarriedHolds.{GoesWith, IsCarried}
+use Rattle.ed_rules.specs.facts.CarriedHolds.{GoesWith}
 use Rattle.ed_rules.proofs.facts.CarriedFacts.{to-low, to-block, to-passed_up, to-passed_down, to-high, carry-holds}
 use Rattle.ed_rules.proofs.sound.LettersInLines.{line_with, line_with-range, line_with-place}
 use Rattle.ed_rules.proofs.sound.Moving.{length-carried, up-above, up-passed, up-below, moved-lines, down-above, down-passed, down-below}

@@ -1,11 +1,11 @@
 -- The facts of the lines that are current, last or marked are told by the buffer alone: they hold by all numbers that are read of it.
-use Rattle.std.proofs.Common.{◌≡◌, ◌<◌, ◌≤◌, ◌+◌, ◌-◌, ◌==◌, inl, inr, ℕ, zero, suc, ℤ, pos, ◌+ℤ◌, Bool, true, false, ◌&&◌, ◌||◌, nat_lt, List, length, Option, Some, refl, sym, ap, subst, ◌∙◌, arith}
+use Rattle.std.proofs.Common.{◌≡◌, ◌<◌, ◌≤◌, ◌+◌, ◌-◌, ◌==◌, inl, inr, ℕ, zero, suc, ℤ, pos, ◌+ℤ◌, Bool, true, false, ◌&&◌, ◌||◌, nat_lt, List, length, Some, refl, sym, ap, subst, ◌∙◌, arith}
 use Rattle.std.proofs.lemmas.Int.{ints}
 use Rattle.std.proofs.lemmas.Bool.{and_parts, or_cases, cases_lt, ltb-true}
 use Rattle.std.proofs.lemmas.Bool.Decides.{eqb_tells}
 use Rattle.zones.specs.Zone.{Numbers, updated}
-use Rattle.zones.proofs.Known.{updated-same, updated-other}
-use Rattle.ed_base.specs.Buffer.{Line, marked_place}
+use Rattle.zones.proofs.Known.{updated-other}
+use Rattle.ed_base.specs.Buffer.{Line}
 use Rattle.ed_syntax.specs.meaning.Values.{matches_line}
 use Rattle.ed_rules.specs.Marks.{is_sure}
 use Rattle.ed_rules.specs.StandsFor.{Reads}

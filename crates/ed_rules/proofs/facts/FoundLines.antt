@@ -19,7 +19,7 @@ use Rattle.ed_rules.proofs.facts.SearchOrder.{forward-found, backward-found}
 use Rattle.ed_rules.specs.facts.FoundHolds.{KnownHolds, ReadsPlaces, Finds}
 use Rattle.std.proofs.lemmas.List.Folds.{list_any_at}
 use Rattle.ed_rules.specs.facts.Facts.{LineFact, Stretch, Facts, FactsHold, LineFactHolds, StretchHolds, IsClear, IsTold, value_of, at, point, end, same_text, is_clear}
-use Rattle.ed_rules.specs.facts.FoundLines.{Known, known_as, without, with_match, with_stretch, some_line, matches_it, is_witnessed, witnesses, is_only, at_most_each, at_least_each, ends_from, ends_after, first_after, is_ahead, found_ahead, found_only, searched_forward, begins_to, begins_before, last_before, is_behind, found_behind, searched_backward}
+use Rattle.ed_rules.specs.facts.FoundLines.{Known, known_as, without, with_answer, with_match, with_stretch, some_line, matches_it, is_witnessed, witnesses, is_only, at_most_each, at_least_each, ends_from, ends_after, first_after, is_ahead, found_ahead, found_only, searched_forward, begins_to, begins_before, last_before, is_behind, found_behind, searched_backward}
 use Rattle.ed_rules.specs.facts.SearchOrder.{NonePass, IsFoundForward, IsFoundBackward}
 use Rattle.ed_rules.proofs.facts.FactsTold.{any-gives, text-same, point-named, le-true, is_clear-true}
 
@@ -89,7 +89,7 @@ witness-of number lines pattern f h e =
       passes = subst (λ (p : List ℕ). matches_line p lines h.holds.line ≡ true) (text-same f.pattern pattern b.0) (h.holds.told ∙ b.1);
     }
 
-witnesses-true : (facts : Facts) (number : Numbers) (lines : List Line) (pattern : List ℕ) → FactsHold facts number lines → All (IsWitness number (length lines) (matches_line pattern lines)) (witnesses facts pattern)
+pub witnesses-true : (facts : Facts) (number : Numbers) (lines : List Line) (pattern : List ℕ) → FactsHold facts number lines → All (IsWitness number (length lines) (matches_line pattern lines)) (witnesses facts pattern)
 witnesses-true facts number lines pattern h =
     All-map (IsWitness number (length lines) (matches_line pattern lines)) (λ (f : LineFact). f.name) (filter (matches_it pattern) facts.lines)
     (filter-both (matches_it pattern) (LineFactHolds number lines) (λ (f : LineFact). IsWitness number (length lines) (matches_line pattern lines) f.name) facts.lines h.of_lines (λ f q e. witness-of number lines pattern f q e))
@@ -126,12 +126,17 @@ pub record IsThere (w : Numbers) (lines : List Line) (pattern : List ℕ) (x n :
   pub inside : n ≤ length lines
   pub passes : matches_line pattern lines n ≡ true
 
-pub with_match-holds : (w : Numbers) (lines : List Line) (pattern : List ℕ) (x n : ℕ) (facts : Facts) → IsThere w lines pattern x n → FactsHold facts w lines → FactsHold (with_match x pattern facts) w lines
-with_match-holds w lines pattern x n facts i h = record {
-  of_lines = All-cons (LineFactHolds w lines) (record { name = x; pattern = pattern; matches = true }) facts.lines
-      (record { named = i.named; holds = record { line = n; is = i.is; from = i.from; inside = i.inside; told = i.passes } }) h.of_lines;
+-- of a line it is known whether it matches
+pub with_answer-holds : (w : Numbers) (lines : List Line) (pattern : List ℕ) (x : ℕ) (matches : Bool) (facts : Facts) → x < 32 →
+    IsTold (length lines) (matches_line pattern lines) (w x) matches → FactsHold facts w lines → FactsHold (with_answer x pattern matches facts) w lines
+with_answer-holds w lines pattern x matches facts named told h = record {
+  of_lines = All-cons (LineFactHolds w lines) (record { name = x; pattern = pattern; matches = matches }) facts.lines (record { named = named; holds = told }) h.of_lines;
   of_clear = h.of_clear;
 }
+
+pub with_match-holds : (w : Numbers) (lines : List Line) (pattern : List ℕ) (x n : ℕ) (facts : Facts) → IsThere w lines pattern x n → FactsHold facts w lines → FactsHold (with_match x pattern facts) w lines
+with_match-holds w lines pattern x n facts i h =
+    with_answer-holds w lines pattern x true facts i.named (record { line = n; is = i.is; from = i.from; inside = i.inside; told = i.passes }) h
 
 with_stretch-holds : (w : Numbers) (lines : List Line) (pattern : List ℕ) (a b : ℕ) (facts : Facts) → a < 33 → b < 33 →
     IsClear (length lines) (matches_line pattern lines) (value_of w (point a)) (value_of w (point b)) → FactsHold facts w lines → FactsHold (with_stretch a b pattern facts) w lines

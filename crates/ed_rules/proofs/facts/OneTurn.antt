@@ -16,7 +16,7 @@ use Rattle.ed_rules.specs.GlobalSoundness.{FlaggedPass, passes_none}
 use Rattle.ed_rules.specs.facts.OneTurn.{IsTakenOnce}
 use Rattle.ed_rules.proofs.facts.FactsTold.{is_clear-true}
 
-some-of : (o : Option ℕ) (g : ℕ → editor.State) (f : editor.State) → option_map g o ≡ Some f → (i : ℕ) × (o ≡ Some i) × (g i ≡ f)
+pub some-of : {A : Type 0} (o : Option ℕ) (g : ℕ → A) (f : A) → option_map g o ≡ Some f → (i : ℕ) × (o ≡ Some i) × (g i ≡ f)
 some-of None g f e = absurd cc
 some-of (Some i) g f e = let k : g i ≡ f = cc in (i, refl, k)
 

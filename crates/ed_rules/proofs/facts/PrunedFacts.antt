@@ -1,10 +1,10 @@
 -- What is left of facts once others are left out is true.
-use Rattle.std.proofs.Common.{Bool, true, false, cond, List, [], ◌∷◌, All}
-use Rattle.std.proofs.lemmas.List.Elements.{All-nil, All-cons, All-head, All-tail}
+use Rattle.std.proofs.Common.{Bool, true, false, cond, not, List, [], ◌∷◌, All}
+use Rattle.std.proofs.lemmas.List.Elements.{All-nil, All-cons, All-head, All-tail, All-filter}
 use Rattle.zones.specs.Zone.{Bounds, Numbers}
 use Rattle.ed_base.specs.Buffer.{Line}
-use Rattle.ed_rules.specs.facts.Facts.{Stretch, Facts, StretchHolds, FactsHold}
-use Rattle.ed_rules.specs.facts.PrunedFacts.{is_said, with_unsaid, pruned}
+use Rattle.ed_rules.specs.facts.Facts.{LineFact, Stretch, Facts, LineFactHolds, StretchHolds, FactsHold}
+use Rattle.ed_rules.specs.facts.PrunedFacts.{is_said, with_unsaid, unsaid, is_idle, with_clear, pruned}
 
 unsaid-all : (Q : Stretch → Type 0) (zone : Bounds) (kept more : List Stretch) → All Q kept → All Q more → All Q (with_unsaid zone kept more)
 unsaid-all Q zone kept [] k m = k
@@ -17,7 +17,8 @@ pub pruned-hold : (zone : Bounds) (facts : Facts) (number : Numbers) (lines : Li
     FactsHold (pruned zone facts) number lines
 pruned-hold zone facts number lines h =
     let Q : Stretch → Type 0 = StretchHolds number lines in
+    let left : Facts = with_clear (unsaid zone facts.clear) facts in
     record {
-      of_lines = h.of_lines;
+      of_lines = All-filter (λ (f : LineFact). not (is_idle zone left f)) (LineFactHolds number lines) facts.lines h.of_lines;
       of_clear = unsaid-all Q zone [] (with_unsaid zone [] facts.clear) (All-nil Q) (unsaid-all Q zone [] facts.clear (All-nil Q) h.of_clear);
     }

@@ -6,7 +6,8 @@ use Rattle.std.proofs.lemmas.Bool.{eqb-true, cases_lt, not_from_false, and_from,
 use Rattle.std.proofs.lemmas.List.{length-take-le, get_or-take, get_or-drop, get_or_append_left, get_or-append_right}
 use Rattle.std.proofs.lemmas.List.Elements.{All-cons, All-weaker}
 use Rattle.zones.specs.Zone.{Bounds, Numbers}
-use Rattle.ed_base.specs.Buffer.{Line, plain_line}
+use Rattle.ed_base.specs.Buffer.{Line, plain_line, has_letter}
+use Rattle.ed_rules.proofs.sound.LettersInLines.{no_letter}
 use Rattle.ed_base.specs.Parts.{between, replaced}
 use Rattle.ed_syntax.specs.meaning.Values.{matches, matches_line}
 use Rattle.ed_syntax.specs.meaning.SubstitutedLines.{onto, each, made_of}
@@ -57,6 +58,27 @@ module _ (f : Makes) (possible spared : List (List ℕ)) (m : MakesOfEach f poss
         | Some texts ↦ λ q. let t = only-one texts (m.one l.bytes texts q) in
             ap (λ (ts : List (List ℕ)). line_at (map plain_line ts ++ (each f ls).0) (suc i)) t.1 ∙ later
       ]) refl
+
+  -- a letter is where it was, or gone with its line
+  each-letters : (x : ℕ) (ls : List Line) (i : ℕ) → has_letter x (line_at (each f ls).0 i) ≡ true → has_letter x (line_at ls i) ≡ true
+  unfolding line_at
+  each-letters x [] i e = e
+  each-letters x (l ∷ ls) zero e =
+      (elim (f l.bytes) as (λ o. f l.bytes ≡ o → has_letter x (line_at (onto l o (each f ls)).0 0) ≡ true → has_letter x l ≡ true) [
+        | None ↦ λ q k. k
+        | Some texts ↦ λ q k.
+            let t = only-one texts (m.one l.bytes texts q) in
+            let plain : has_letter x (plain_line t.0) ≡ true =
+            ap (λ (ts : List (List ℕ)). has_letter x (line_at (map plain_line ts ++ (each f ls).0) 0)) (sym t.1) ∙ k in
+            let none : false ≡ true = sym (no_letter 26 x) ∙ plain in cc
+      ]) refl e
+  each-letters x (l ∷ ls) (suc i) e =
+      let later = each-letters x ls i in
+      (elim (f l.bytes) as (λ o. f l.bytes ≡ o → has_letter x (line_at (onto l o (each f ls)).0 (suc i)) ≡ true → has_letter x (line_at ls i) ≡ true) [
+        | None ↦ λ q k. later k
+        | Some texts ↦ λ q k. let t = only-one texts (m.one l.bytes texts q) in
+            later (ap (λ (ts : List (List ℕ)). has_letter x (line_at (map plain_line ts ++ (each f ls).0) (suc i))) (sym t.1) ∙ k)
+      ]) refl e
 
   -- a line that such a pattern doesn't match becomes none that it does
   each-spared : (pattern : List ℕ) → list_any (λ p. same_text p pattern) spared ≡ true → (ls : List Line) (i : ℕ) → i < length ls → matches pattern (line_at ls i).bytes ≡ false → matches pattern (line_at (each f ls).0 i).bytes ≡ false
@@ -173,6 +195,19 @@ module _ (f : Makes) (possible spared : List (List ℕ)) (made : MakesOfEach f p
         ]
       ]
 
+  letters-same : (x m : ℕ) → 1 ≤ m → has_letter x (line_at changed (m - 1)) ≡ true → has_letter x (line_at old (m - 1)) ≡ true
+  unfolding new line_at
+  letters-same x m from e =
+      elim (cases_lt m a) [
+        | inl low ↦ ap (has_letter x) (sym (before-line m from low)) ∙ e
+        | inr past ↦ elim (cases_lt b m) [
+          | inl high ↦ ap (has_letter x) (sym (after-line m high)) ∙ e
+          | inr within ↦
+              ap (has_letter x) (sym (block-line m past within))
+              ∙ each-letters f possible spared made x block (m - a) (ap (has_letter x) (sym (within-line m past within)) ∙ e)
+        ]
+      ]
+
   spared-line : (pattern : List ℕ) → list_any (λ p. same_text p pattern) spared ≡ true → (m : ℕ) → 1 ≤ m → matches_line pattern old m ≡ false → matches_line pattern changed m ≡ false
   unfolding new line_at
   spared-line pattern k m from e =
@@ -286,6 +321,15 @@ module _ (f : Makes) (possible spared : List (List ℕ)) (made : MakesOfEach f p
   pub substituted-hold : (patterns : List (List ℕ)) → FactsHold (substituted_facts zone facts possible spared kept patterns) after (replaced a b (each f (between a b old)).0 old)
   unfolding changed new block
   substituted-hold patterns = facts-hold patterns
+
+  pub substituted-letters : (x m : ℕ) → 1 ≤ m → has_letter x (get_or (replaced a b (each f (between a b old)).0 old) (m - 1) (plain_line [])) ≡ true →
+      has_letter x (get_or old (m - 1) (plain_line [])) ≡ true
+  unfolding changed new block line_at
+  substituted-letters x m from e = letters-same x m from e
+
+  pub substituted-size : length (replaced a b (each f (between a b old)).0 old) ≡ length old
+  unfolding changed new block
+  substituted-size = size
 
 -- A LINE WITHOUT A MATCH
 

@@ -13,6 +13,7 @@ use Rattle.ed_rules.specs.facts.FoundLines.{Known, known_as, without, with_match
 use Rattle.ed_rules.specs.facts.AssignedFacts.{moved}
 use Rattle.ed_rules.specs.Following.{may_name, spoken_facts, found_by}
 use Rattle.ed_rules.specs.Addresses.{known_found}
+use Rattle.ed_rules.specs.Globals.{line_known}
 use Rattle.ed_rules.proofs.facts.FoundLines.{filter-both, find-gives}
 use Rattle.ed_rules.proofs.formed.Speaking.{IsNamed, Speaks-guard, Speaks-set}
 use Rattle.ed_rules.proofs.formed.Naming.{is_spoken}
@@ -92,6 +93,17 @@ begins-named marks zone facts high pattern h =
     q.0 (not-true (s.after == end) b.0)))
 
 -- THE ZONE
+
+-- the line that alone matches is current
+pub Inner-line_known : (marks : List Bool) (zone : Bounds) (facts : Facts) (pattern : List ℕ) (v : ℕ) →
+    find (is_only zone (spoken_facts marks facts) pattern) (witnesses (spoken_facts marks facts) pattern) ≡ Some v → Inner marks zone →
+    Inner marks (line_known v zone)
+unfolding line_known
+Inner-line_known marks zone facts pattern v found h =
+    let spoken_of : Facts = spoken_facts marks facts in
+    let named = find-gives (is_only zone spoken_of pattern) (Named marks) (witnesses spoken_of pattern) v
+    (witnesses-named marks spoken_of pattern (spoken-named marks facts)) found in
+    Inner-guard marks _ 1 2 _ refl refl (Inner-guard marks _ 0 1 _ refl refl (Speaks-set (is_spoken marks) zone 1 v (pos 0) (spoken marks 1 refl) named.0 h))
 
 module _ (marks : List Bool) (x : ℕ) (hx : IsLow x) where
   Inner-some_line : (zone : Bounds) → Inner marks zone → Inner marks (some_line x zone)

@@ -1,12 +1,12 @@
 -- The pieces of rules on zones speak of the names of a rule alone.
-use Rattle.std.proofs.Common.{◌≡◌, ◌<◌, ◌&&◌, ℕ, zero, suc, ℤ, pos, negsuc, Bool, true, false, cond, List, Option, None, Some, refl, arith}
+use Rattle.std.proofs.Common.{◌≡◌, ◌<◌, ◌&&◌, inl, ℕ, zero, suc, ℤ, pos, negsuc, Bool, true, false, cond, List, Option, None, Some, refl, arith}
 use Rattle.std.specs.Prelude.{nat_lt}
 use Rattle.std.proofs.lemmas.Bool.{cond_both, ltb-true}
 use Rattle.zones.specs.Name.{mark}
 use Rattle.zones.specs.Bound.{sum_of}
 use Rattle.zones.specs.Zone.{Bounds}
 use Rattle.zones.specs.Known.{known, least, greatest}
-use Rattle.zones.specs.Steps.{any_zone, after_guard, after_set, after_shift, after_forget}
+use Rattle.zones.specs.Steps.{any_zone, after_guard, after_set, after_shift, after_forget, join_of}
 use Rattle.ed_syntax.specs.Commands.{Addresses, Without, One, Comma, Semicolon}
 use Rattle.ed_rules.specs.Marks.{is_sure, no_marks, for_each_sure}
 use Rattle.ed_rules.specs.Formed.{has_name}
@@ -14,12 +14,12 @@ use Rattle.ed_rules.specs.States.{limited}
 use Rattle.ed_rules.specs.Pieces.{guarded_by, mark_bounded, ended, mark_pushed, inserted, lifted, left_over, current_left, current_replaced}
 use Rattle.ed_rules.specs.Addresses.{found}
 use Rattle.ed_rules.specs.Lines.{current_inserted, lifted_range}
-use Rattle.ed_rules.specs.Move.{less, mark_moved_up, moved_up, mark_moved_down, moved_down}
+use Rattle.ed_rules.specs.Move.{less, mark_moved_up, moved_up, mark_moved_down, moved_down, moved_either}
 use Rattle.ed_rules.specs.Substituting.{current_split, current_substituted, current_within}
 use Rattle.ed_rules.specs.Files.{current_read, zone_loaded}
 use Rattle.ed_rules.specs.Globals.{line_taken}
 use Rattle.ed_rules.proofs.sound.Finishing.{for_each_sure-by}
-use Rattle.ed_rules.proofs.formed.Speaking.{Speaks, IsNamed, Speaks-any, Speaks-guard, Speaks-set, Speaks-shift}
+use Rattle.ed_rules.proofs.formed.Speaking.{Speaks, IsNamed, Speaks-any, Speaks-guard, Speaks-set, Speaks-shift, Speaks-join}
 use Rattle.ed_rules.proofs.formed.Naming.{is_spoken, low-spoken, letter-spoken, letter-named, Speaks-forgetting, Speaks-without_addresses, Speaks-without_letters_all}
 
 -- a zone on the way through a rule
@@ -186,6 +186,15 @@ pub Inner-moved_down : (marks : List Bool) (before : Bounds) → Inner marks bef
 unfolding moved_down
 Inner-moved_down marks before h =
     Inner-letters marks (mark_moved_down before) _ (λ k z n q. Inner-mark_moved_down marks before k z n q) (Inner-set marks before 1 5 _ refl refl h)
+
+pub Inner-moved_either : (marks : List Bool) (before : Bounds) → Inner marks before → Inner marks (moved_either marks before)
+unfolding moved_either
+Inner-moved_either marks before h =
+    let names : ℕ → Bool = is_spoken marks in
+    Speaks-join names names names (moved_up marks (after_guard before 5 3 (negsuc 0))) (moved_down marks (after_guard before 4 5 (negsuc 0)))
+    (λ x hx e. inl e)
+    (Inner-moved_up marks (after_guard before 5 3 (negsuc 0)) (Inner-guard marks before 5 3 (negsuc 0) refl refl h))
+    (Inner-moved_down marks (after_guard before 4 5 (negsuc 0)) (Inner-guard marks before 4 5 (negsuc 0) refl refl h))
 
 -- SUBSTITUTION
 

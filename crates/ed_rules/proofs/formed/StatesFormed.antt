@@ -1,7 +1,10 @@
 -- States stay formed: the start, each rule, join and widening, the list of a global command.
-use Rattle.std.proofs.Common.{ℕ, pos, neg_ℤ, Bool, true, false, List, Option, None, refl}
-use Rattle.std.specs.Prelude.{IfOk}
-use Rattle.ed_syntax.specs.Commands.{Verb, Command, Step}
+use Rattle.std.proofs.Common.{ℕ, pos, neg_ℤ, Bool, true, false, List, Option, Some, None, option_map, find, refl}
+use Rattle.std.specs.Prelude.{IfOk, IfSome}
+use Rattle.zones.specs.Zone.{Bounds}
+use Rattle.ed_syntax.specs.Commands as ed
+use Rattle.ed_syntax.specs.declared.command.Sense.TheVariants as sense
+use Rattle.ed_syntax.specs.Commands.{Addresses, Without, Verb, Command, Step}
 use Rattle.ed_syntax.specs.meaning.Verbs.{takes}
 use Rattle.ed_rules.specs.declared.known_matches.Matches.{Matches}
 use Rattle.ed_rules.specs.declared.state.Undo.{Undo}
@@ -13,11 +16,15 @@ use Rattle.ed_rules.specs.States.{start}
 use Rattle.ed_rules.specs.Order.{join, widen}
 use Rattle.ed_rules.specs.Pieces.{with_zone}
 use Rattle.ed_rules.specs.Rules.{effect, step}
-use Rattle.ed_rules.specs.Globals.{taken_matches, with_old, finished, line_taken, body_entry, list_may_alter, old_if, undo_of_global, loop_end}
+use Rattle.ed_rules.specs.Globals.{taken_matches, facts_taken, entry_with, only_line, line_known, facts_known, line_entry, once_by, once_entry, with_old, finished, line_taken, body_entry, list_may_alter, old_if, undo_of_global, loop_end}
 use Rattle.ed_rules.specs.Matching.{saying, matches_after}
 use Rattle.ed_rules.specs.FactsAfter.{facts_after}
-use Rattle.ed_rules.specs.facts.Facts.{Facts, no_facts}
-use Rattle.ed_rules.proofs.formed.SpeakingPieces.{Speaks-start, Inner-line_taken}
+use Rattle.ed_rules.specs.facts.Facts.{Facts}
+use Rattle.ed_rules.specs.Following.{spoken_facts}
+use Rattle.ed_rules.specs.facts.FoundLines.{is_only, witnesses}
+use Rattle.ed_rules.proofs.Basics.{IfSome-mapped}
+use Rattle.ed_rules.proofs.formed.SpeakingFound.{Inner-line_known}
+use Rattle.ed_rules.proofs.formed.SpeakingPieces.{Inner, Speaks-start, Inner-line_taken}
 use Rattle.ed_rules.proofs.formed.RisingChoices.{SetIsFormed-only}
 use Rattle.ed_rules.proofs.formed.CountedLines.{start-counted}
 use Rattle.std.proofs.lemmas.Result.{IfOk-weaker}
@@ -57,14 +64,35 @@ widen-formed old new h k = Closed-formed (widen old new) (Closed-widen old new (
 
 -- THE LIST OF A GLOBAL COMMAND
 
+entered-formed : (verb : Verb) (invariant : State) (zone : Bounds) (facts : Facts) → Forming invariant → Inner invariant.marks zone →
+    IsEnded (entry_with verb invariant zone facts)
+entered-formed verb invariant zone facts f inner =
+    let t : State = with_zone zone invariant in
+    let m : Matches = record invariant.matches { has = taken_matches verb invariant.matches.has } in
+    AtEnd-ended (finished (saying m facts t)) (finished-AtEnd (saying m facts t) (matching-forming t m facts (forming-zone invariant zone inner f)))
+
 pub entry-formed : (verb : Verb) (invariant : State) → IsFormed invariant → IsEnded (body_entry verb invariant)
 entry-formed verb invariant h =
     let f : Forming invariant = Closed-forming invariant (formed-Closed invariant h) in
-    let t : State = with_zone (line_taken invariant.zone) invariant in
-    let m : Matches = record invariant.matches { has = taken_matches verb invariant.matches.has } in
-    AtEnd-ended (finished (saying m no_facts t))
-    (finished-AtEnd (saying m no_facts t)
-    (matching-forming t m no_facts (forming-zone invariant (line_taken invariant.zone) (Inner-line_taken invariant.marks invariant.zone f.zone) f)))
+    entered-formed verb invariant (line_taken invariant.zone) (facts_taken verb invariant) f (Inner-line_taken invariant.marks invariant.zone f.zone)
+
+only-formed : (verb : Verb) (invariant : State) → Forming invariant → IfSome (option_map (λ v. line_entry v verb invariant) (only_line verb invariant)) IsEnded
+only-formed (ed.Global sense.Matching (Some text)) invariant f =
+    let verb : Verb = ed.Global sense.Matching (Some text) in
+    let facts : Facts = spoken_facts invariant.marks invariant.facts in
+    IfSome-mapped (λ v. line_entry v verb invariant) IsEnded (find (is_only invariant.zone facts text) (witnesses facts text))
+    (λ v found. entered-formed verb invariant (line_known v invariant.zone) (facts_known v verb invariant) f
+    (Inner-line_known invariant.marks invariant.zone invariant.facts text v found f.zone))
+only-formed (ed.Global sense.Matching None) invariant f = tt
+only-formed (ed.Global sense.Others pattern) invariant f = tt
+only-formed _ invariant f = tt
+
+once-by : (given : Addresses) (verb : Verb) (invariant : State) → Forming invariant → IfSome (once_by given verb invariant) IsEnded
+once-by Without verb invariant f = only-formed verb invariant f
+once-by _ verb invariant f = tt
+
+pub once-formed : (c : Command) (invariant : State) → IsFormed invariant → IfSome (once_entry c invariant) IsEnded
+once-formed c invariant h = once-by c.addresses c.verb invariant (Closed-forming invariant (formed-Closed invariant h))
 
 old_if-speaks : (b : Bool) (before : State) → Closed before → OldSpeaks (old_if b before)
 old_if-speaks true before h = (h.letters, h.zone)

@@ -1,12 +1,13 @@
 -- What states say of matches stays formed: the start, each rule, join and widening, the list of a global command.
 use Rattle.std.proofs.Common.{ℕ, Bool, true, false, List, [], ◌∷◌, Option, None, Some, IfOk, refl, sym, subst}
-use Rattle.std.specs.Prelude.{All}
+use Rattle.std.specs.Prelude.{All, IfSome}
 use Rattle.std.specs.List.{flat_map}
 use Rattle.std.proofs.lemmas.List.Concat.{flat_map-cons}
 use Rattle.std.proofs.lemmas.List.Elements.{All-nil, All-head, All-tail, All-append, All-map}
 use Rattle.std.proofs.lemmas.Result.{IfOk-weaker}
 use Rattle.ed_syntax.specs.Commands as ed
-use Rattle.ed_syntax.specs.Commands.{Verb, Command, Step, Script}
+use Rattle.zones.specs.Zone.{Bounds}
+use Rattle.ed_syntax.specs.Commands.{Addresses, Without, Verb, Command, Step, Script}
 use Rattle.ed_syntax.specs.meaning.Verbs.{takes}
 use Rattle.ed_syntax.specs.declared.command.Sense.TheVariants as sense
 use Rattle.ed_rules.specs.declared.state.State.{State}
@@ -16,7 +17,9 @@ use Rattle.ed_rules.specs.Formed.{ChoiceIsBytes, VerbIsBytes, TextsAreBytes, Tex
 use Rattle.ed_rules.specs.States.{start}
 use Rattle.ed_rules.specs.Order.{join, widen}
 use Rattle.ed_rules.specs.Rules.{effect, step}
-use Rattle.ed_rules.specs.Globals.{taken_matches, old_if, old_has_if, body_entry, list_may_alter, loop_end}
+use Rattle.ed_rules.specs.Globals.{line_taken, taken_matches, facts_taken, entry_with, body_entry, only_line, line_known, facts_known, line_entry, once_by, once_entry, old_if, old_has_if, list_may_alter, loop_end}
+use Rattle.ed_rules.specs.facts.Facts.{Facts}
+use Rattle.ed_rules.proofs.Basics.{IfSome-mapped}
 use Rattle.ed_rules.proofs.formed.GivenBytes.{TextIsBytes, sought-bytes, asked-bytes}
 use Rattle.ed_rules.proofs.formed.RisingTexts.{none-formed, filter-formed, with_text-formed, with_texts-formed}
 use Rattle.ed_rules.proofs.matches.OldMatches.{both-of_lines, effect-of_lines}
@@ -71,10 +74,24 @@ taken-formed (ed.Global sense.Matching None) b = none-formed
 taken-formed (ed.Global sense.Others pattern) b = none-formed
 taken-formed verb b = none-formed
 
-pub entry-matches : (verb : Verb) (invariant : State) → VerbIsBytes verb → MatchesAreFormed invariant → MatchesAreFormed (body_entry verb invariant)
-entry-matches verb invariant b h =
-    let says = says-entry TextsAreFormed formed-sets verb invariant (taken-formed verb b) (says-of invariant h) in
+entered-matches : (verb : Verb) (invariant : State) (zone : Bounds) (facts : Facts) → VerbIsBytes verb → MatchesAreFormed invariant →
+    MatchesAreFormed (entry_with verb invariant zone facts)
+entered-matches verb invariant zone facts b h =
+    let says = says-entry TextsAreFormed formed-sets verb invariant zone facts (taken-formed verb b) (says-of invariant h) in
     record { has = says.0; old_has = says.1; of_lines = h.of_lines }
+
+pub entry-matches : (verb : Verb) (invariant : State) → VerbIsBytes verb → MatchesAreFormed invariant → MatchesAreFormed (body_entry verb invariant)
+entry-matches verb invariant b h = entered-matches verb invariant (line_taken invariant.zone) (facts_taken verb invariant) b h
+
+once-by : (given : Addresses) (verb : Verb) (invariant : State) → VerbIsBytes verb → MatchesAreFormed invariant →
+    IfSome (once_by given verb invariant) MatchesAreFormed
+once-by Without verb invariant b h =
+    IfSome-mapped (λ v. line_entry v verb invariant) MatchesAreFormed (only_line verb invariant)
+    (λ v _. entered-matches verb invariant (line_known v invariant.zone) (facts_known v verb invariant) b h)
+once-by _ verb invariant b h = tt
+
+pub once-matches : (c : Command) (invariant : State) → VerbIsBytes c.verb → MatchesAreFormed invariant → IfSome (once_entry c invariant) MatchesAreFormed
+once-matches c invariant b h = once-by c.addresses c.verb invariant b h
 
 old-formed : (b : Bool) (before : State) → MatchesAreFormed before → TextsAreFormed (old_has_if b before)
 old-formed true before h = h.has

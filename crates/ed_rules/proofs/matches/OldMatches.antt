@@ -21,7 +21,7 @@ use Rattle.ed_rules.specs.KnownMatches.{old_has_of_both}
 use Rattle.ed_rules.specs.Order.{old_of_both, join}
 use Rattle.ed_rules.specs.Pieces.{with_zone, mark_lost, replaced, modified}
 use Rattle.ed_rules.specs.Lines.{joined, joined_given}
-use Rattle.ed_rules.specs.Move.{moved_zone}
+use Rattle.ed_rules.specs.Move.{is_target_told_apart, moved_zone}
 use Rattle.ed_rules.specs.Substituting.{replacement_used, pattern_used, is_sure_to_match, is_sure_of_some, surely_substituted, partly_substituted, substituted_if}
 use Rattle.ed_rules.specs.Files.{named, named_first, maybe_modified}
 use Rattle.ed_rules.specs.Undoing.{present_of, undone_by}
@@ -138,7 +138,7 @@ module _ (given : Addresses) (start s : State) where
   altered-some ed.Delete h = refl
   altered-some ed.Join h = given-some given h
   altered-some (ed.Move to) h =
-      IfOk-after (λ (r : State). is_some r.undo.was ≡ true) (moved_zone s.marks s.zone) _ (λ zone. refl)
+      IfOk-after (λ (r : State). is_some r.undo.was ≡ true) (moved_zone (is_target_told_apart s) s.marks s.zone) _ (λ zone. refl)
   altered-some (ed.Copy to) h = refl
   altered-some (ed.Substitute pattern replacement choice form) h =
       IfOk-after (λ (r : State). is_some r.undo.was ≡ true) (replacement_used false replacement s >> pattern_used pattern) _

@@ -20,7 +20,9 @@ use Rattle.ed_rules.specs.Order.{join, widen}
 use Rattle.ed_rules.specs.Matching.{joining_given, kept_unless, how_surely, matches_by_undo, matched_after, old_matched_by}
 use Rattle.ed_rules.specs.Matching.{old_matched_unless, matches_after}
 use Rattle.ed_rules.specs.Rules.{effect, step}
-use Rattle.ed_rules.specs.Globals.{taken_matches, body_entry}
+use Rattle.zones.specs.Zone.{Bounds}
+use Rattle.ed_rules.specs.facts.Facts.{Facts}
+use Rattle.ed_rules.specs.Globals.{taken_matches, entry_with}
 use Rattle.ed_rules.proofs.through.Needs.{Any, all-any, anyway}
 use Rattle.ed_rules.proofs.through.Addresses.{beside}
 use Rattle.ed_rules.proofs.through.Steps.{rule-through}
@@ -112,6 +114,6 @@ module _ (S : List (List ℕ) → Type 0) (sets : OfSets S) where
   says-taken (ed.Global sense.Others pattern) has g h = h
   says-taken verb has g h = h
 
-  pub says-entry : (verb : Verb) (invariant : State) → S (taken_matches verb []) → Says S invariant →
-      Says S (body_entry verb invariant)
-  says-entry verb invariant g h = (says-taken verb invariant.matches.has g h.0, h.1)
+  pub says-entry : (verb : Verb) (invariant : State) (zone : Bounds) (facts : Facts) → S (taken_matches verb []) → Says S invariant →
+      Says S (entry_with verb invariant zone facts)
+  says-entry verb invariant zone facts g h = (says-taken verb invariant.matches.has g h.0, h.1)

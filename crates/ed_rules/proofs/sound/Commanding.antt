@@ -35,7 +35,7 @@ use Rattle.ed_rules.proofs.Basics.{Agrees}
 use Rattle.ed_rules.proofs.sound.Standing.{StandsBy-temporary, StandsBy-current, StandsBy-guarded, Reads-temporary, Begins}
 use Rattle.ed_rules.proofs.sound.Following.{FollowedHold, followed-set, FactsHold-lifted}
 use Rattle.ed_rules.proofs.sound.Addressing.{StandsBy-set, Valued, valued-sound, Names, NamesOf, Addressed, AddressedIn, command_addressed}
-use Rattle.ed_rules.proofs.sound.Spans.{Spans, Ranges}
+use Rattle.ed_rules.proofs.sound.Spans.{Spans, Ranges, InRange}
 use Rattle.ed_rules.proofs.sound.Effects.{append-follows, delete-follows, insert-follows, change-follows, join-follows, join-one, copy-follows, mark-follows, move-follows}
 use Rattle.std.proofs.lemmas.Bool.{ltb-true}
 use Rattle.ed_rules.proofs.sound.Lifting.{Holds-lifted}
@@ -119,9 +119,6 @@ single-is : (n : ℕ) → 1 ≤ n → single n ≡ Ok (span n n)
 single-is zero h = absurd (omega arith)
 single-is (suc n) h = refl
 
-abbrev pub InRange : editor.State → State → Span → Type 0
-InRange e u x = (r : Ranges u e x) × FollowedHold u r.spans.numbers e.lines
-
 -- a range, and what else is said of the same numbers
 abbrev pub RangeAlso : (State → Numbers → Type 0) → editor.State → State → Span → Type 0
 RangeAlso E e u x = (r : Ranges u e x) × E u r.spans.numbers
@@ -161,6 +158,12 @@ pub range-known : (a : Addresses) → IsGiven a → (t : State) (p : editor.Stat
 range-known a g t p count h =
     range-also (λ u v. FollowedHold u v p.0.lines × AreMatched u.matches.has p.0.lines) t p.0 p.1 h.numbers count h.stands
     (names-given a g p.1 p.0.lines h.numbers h.names) (h.followed, h.matched)
+
+-- a range, where what is said of single lines is
+pub range-in : (a : Addresses) → IsGiven a → (t : State) (p : editor.State × List ℕ) (count : ℕ) → Addressed (NamesOf a) t p →
+    Agrees (InRange p.0) (ranged t) (spanned many.Range count p.1)
+range-in a g t p count h =
+    range-also (λ u v. FollowedHold u v p.0.lines) t p.0 p.1 h.numbers count h.stands (names-given a g p.1 p.0.lines h.numbers h.names) h.followed
 
 abbrev pub Nothing_more : Numbers → Type 0
 Nothing_more v = Unit {0}
@@ -352,8 +355,8 @@ join-sound : (c : Command) (given d : Addresses) → IsGiven d → (s : State) (
     Agrees Final (ranged t >> λ u. suffixed c.suffix (with_zone (ended (joined_given given c.listed s u).marks (joined_given given c.listed s u).zone) (joined_given given c.listed s u)))
     (spanned many.Range (length e.lines) p.1 >> λ x. completed c e (Makes (effects.join x p.0)))
 join-sound c Without d g s e start t p h =
-    Agrees-bind (RangeWith Nothing_more p.0) Final (ranged t) (spanned many.Range (length e.lines) p.1) _ _ (range-sound d g t p (length e.lines) h)
-    (λ u x r. finish-sound c e (joined c.listed s u) (Makes (effects.join x p.0)) (join-follows c.listed s e start u p.0 x r.0))
+    Agrees-bind (InRange p.0) Final (ranged t) (spanned many.Range (length e.lines) p.1) _ _ (range-in d g t p (length e.lines) h)
+    (λ u x r. finish-sound c e (joined c.listed s u) (Makes (effects.join x p.0)) (join-follows c.listed s e start u p.0 x r))
 join-sound c (One b) d g s e start t p h =
     let same : h.numbers 3 ≡ h.numbers 4 = h.names.first_is ∙ ap pos (h.names.same tt) ∙ sym h.names.last_is in
     Agrees-bind (RangeWith Equal p.0) Final (ranged t) (spanned many.Range (length e.lines) p.1) _ _
@@ -361,11 +364,11 @@ join-sound c (One b) d g s e start t p h =
     (λ u x r. let f = r.0.spans.first_is in let l = r.0.spans.last_is in let q = r.1 in
     finish-sound c e u (Makes (effects.join x p.0)) (join-one c.listed e u p.0 x r.0 (omega (arith, ints))))
 join-sound c (Comma a b) d g s e start t p h =
-    Agrees-bind (RangeWith Nothing_more p.0) Final (ranged t) (spanned many.Range (length e.lines) p.1) _ _ (range-sound (Comma a b) tt t p (length e.lines) h)
-    (λ u x r. finish-sound c e (joined c.listed s u) (Makes (effects.join x p.0)) (join-follows c.listed s e start u p.0 x r.0))
+    Agrees-bind (InRange p.0) Final (ranged t) (spanned many.Range (length e.lines) p.1) _ _ (range-in (Comma a b) tt t p (length e.lines) h)
+    (λ u x r. finish-sound c e (joined c.listed s u) (Makes (effects.join x p.0)) (join-follows c.listed s e start u p.0 x r))
 join-sound c (Semicolon a b) d g s e start t p h =
-    Agrees-bind (RangeWith Nothing_more p.0) Final (ranged t) (spanned many.Range (length e.lines) p.1) _ _ (range-sound (Semicolon a b) tt t p (length e.lines) h)
-    (λ u x r. finish-sound c e (joined c.listed s u) (Makes (effects.join x p.0)) (join-follows c.listed s e start u p.0 x r.0))
+    Agrees-bind (InRange p.0) Final (ranged t) (spanned many.Range (length e.lines) p.1) _ _ (range-in (Semicolon a b) tt t p (length e.lines) h)
+    (λ u x r. finish-sound c e (joined c.listed s u) (Makes (effects.join x p.0)) (join-follows c.listed s e start u p.0 x r))
 
 -- the target has its value in t3
 pub record Targeted (p : editor.State) (vs : List ℕ) (t : State) (q : editor.State × ℕ) : Type 0 where
@@ -390,6 +393,10 @@ targeted-sound to t p vs v st n matched followed =
       same_lines = refl;
       followed = r.3;
     })
+
+-- what is said of single lines is true of the same numbers, and the target's is its own
+abbrev pub TargetFollowed : editor.State × ℕ → State → Numbers → Type 0
+TargetFollowed q u v = FollowedHold u v q.0.lines × (v 5 ≡ pos q.1)
 
 abbrev pub At_target : ℕ → Numbers → Type 0
 At_target n v = v 5 ≡ pos n
@@ -443,10 +450,10 @@ module _ (order : SpansAreInOrder) (c : Command) (answer : Option Answer) (given
   after_addresses (ed.Change text) f g =
       Agrees-bind (InRange p.0) Final (taken many.Lines given (given_or given d) t) (spanned many.Lines (length e.lines) p.1) _ _
       (subst (λ (ls : List Line). Agrees (InRange p.0) (taken many.Lines given (given_or given d) t) (spanned many.Lines (length ls) p.1)) same_lines (lines-sound given d g t p h))
-      (λ u x r. finish-sound c e (modified c.listed s (replaced (length text) u)) (Makes (effects.change text x p.0)) (change-follows c.listed text s e start u p.0 x r.0))
+      (λ u x r. finish-sound c e (modified c.listed s (replaced (length text) u)) (Makes (effects.change text x p.0)) (change-follows c.listed text s e start u p.0 x r))
   after_addresses ed.Delete f g =
-      Agrees-bind (RangeWith Nothing_more p.0) Final (ranged t) (spanned many.Range (length e.lines) p.1) _ _ (range-sound (given_or given d) (given_or-given given d g) t p (length e.lines) h)
-      (λ u x r. finish-sound c e (modified c.listed s (replaced 0 u)) (Makes (effects.delete x p.0)) (delete-follows c.listed s e start u p.0 x r.0))
+      Agrees-bind (InRange p.0) Final (ranged t) (spanned many.Range (length e.lines) p.1) _ _ (range-in (given_or given d) (given_or-given given d g) t p (length e.lines) h)
+      (λ u x r. finish-sound c e (modified c.listed s (replaced 0 u)) (Makes (effects.delete x p.0)) (delete-follows c.listed s e start u p.0 x r))
   after_addresses ed.Join f g = join-sound c given d g s e start t p h
   after_addresses (ed.Mark letter) f g =
       Agrees-bind (AtLine p.0) Final (taken many.OneLine given (given_or given d) t) (spanned many.OneLine (length e.lines) p.1) _ _ (one_line-sound given (given_or given d) (given_or-given given d g) t p (length e.lines) h)
@@ -457,10 +464,10 @@ module _ (order : SpansAreInOrder) (c : Command) (answer : Option Answer) (given
   after_addresses (ed.Move to) f g =
       let n = names-given (given_or given d) (given_or-given given d g) p.1 p.0.lines h.numbers h.names in
       Agrees-bind (Targeted p.0 p.1) Final (evaluated 5 to t) (targeted (Some to) p.0) _ _ (targeted-sound to t p.0 p.1 h.numbers h.stands n h.matched h.followed)
-      (λ u q k. Agrees-bind (RangeWith (At_target q.1) q.0) Final (ranged u) (spanned many.Range (length e.lines) p.1) _ _
-      (range-with (At_target q.1) u q.0 p.1 k.numbers (length e.lines) k.stands k.names k.target_is)
+      (λ u q k. Agrees-bind (RangeAlso (TargetFollowed q) q.0) Final (ranged u) (spanned many.Range (length e.lines) p.1) _ _
+      (range-also (TargetFollowed q) u q.0 p.1 k.numbers (length e.lines) k.stands k.names (k.followed, k.target_is))
       (λ w x r. Agrees-bind (Follows c.listed e) Final (moved_lines c.listed s w) (making (effects.move x q.1 q.0)) _ _
-      (move-follows c.listed s e start w q.0 x q.1 r.0 r.1 k.target_in
+      (move-follows c.listed s e start w q.0 x q.1 r.0 (r.1).0 (r.1).1 k.target_in
       (subst (λ (ls : List Line). WellMarked ls) (sym (k.same_lines ∙ same_lines)) marked_well))
       (λ m f i. finish-sound c e m f i)))
   after_addresses (ed.Copy to) f g =

@@ -4,7 +4,7 @@ use Rattle.std.proofs.lemmas.Int.{ints}
 use Rattle.std.proofs.lemmas.List.{length-map}
 use Rattle.ed_base.specs.Buffer.{Line, plain_line, texts, marked_at, KnowLetters}
 use Rattle.zones.specs.Zone.{Bounds, Numbers, Holds, bound, updated}
-use Rattle.zones.proofs.Soundness.{Holds-after_set, Holds-after_shift, Obeys-bound, Obeys-sum_of}
+use Rattle.zones.proofs.Soundness.{Holds-after_set, Holds-after_shift, Holds-after_guard, Holds-join_of, Holds-join_of_other, Obeys-bound, Obeys-sum_of}
 use Rattle.ed_syntax.specs.meaning.Ranges.{Span}
 use Rattle.ed_syntax.specs.meaning.States as editor
 use Rattle.ed_syntax.specs.meaning.Effects as effects
@@ -14,12 +14,16 @@ use Rattle.ed_syntax.specs.meaning.Applied.{making}
 use Rattle.ed_syntax.specs.meaning.Values.{◌>>◌}
 use Rattle.ed_base.specs.declared.fault.Fault.{Fault}
 use Rattle.ed_base.specs.declared.fault.Fault.TheVariants as fault
-use Rattle.ed_rules.specs.Move.{moved_up, moved_down, moved_lines}
+use Rattle.ed_rules.specs.Move.{moved_up, moved_down, moved_either, is_target_told_apart, moved_lines}
+use Rattle.ed_rules.specs.facts.Facts.{same, differ}
+use Rattle.ed_rules.proofs.facts.FactsTold.{differ-true}
+use Rattle.ed_rules.proofs.sound.Following.{FollowedHold}
+use Rattle.std.proofs.lemmas.Bool.{and_parts}
 use Rattle.ed_rules.proofs.Basics.{Agrees}
 use Rattle.ed_rules.proofs.Basics.{Agrees-ok}
 use Rattle.ed_rules.proofs.sound.Moving.{up-all, down-all, length-carried}
 use Rattle.ed_rules.proofs.sound.Inserting.{Pushed}
-use Rattle.std.proofs.Common.{Result, Ok, Err, nat_le, ◌&&◌}
+use Rattle.std.proofs.Common.{Result, Ok, Err, nat_le, ◌&&◌, not}
 use Rattle.std.proofs.lemmas.Bool.{le-leb, lt-leb}
 use Rattle.ed_rules.specs.declared.state.State.{State}
 use Rattle.ed_rules.proofs.sound.Weaker.{Stands-join, Stands-join_other}
@@ -31,7 +35,7 @@ use Rattle.zones.specs.Steps.{after_set, after_guard, after_shift}
 use Rattle.ed_rules.proofs.sound.Lifting.{Holds-current_inserted}
 use Rattle.ed_rules.specs.StandsFor.{Reads, HoldsBy, StandsBy, Remembers, AllowsPast}
 use Rattle.ed_rules.proofs.sound.Standing.{StandsBy-current, StandsBy-guarded, Reads-current, Begins}
-use Rattle.ed_rules.proofs.sound.Spans.{Spans, Ranges, Ranges-by}
+use Rattle.ed_rules.proofs.sound.Spans.{Spans, Ranges, InRange, Spans-by, Ranges-by}
 use Rattle.ed_rules.proofs.sound.Finishing.{Follows}
 use Rattle.ed_rules.proofs.sound.Flags.{kept-allowed}
 use Rattle.ed_rules.proofs.sound.LettersInLines.{line_with-plain, length-inserted, length-replaced, line_with-marked, line_with-marked_other, length-marked}
@@ -102,14 +106,15 @@ append-follows listed [] s start st t e x r =
     (updated r.numbers 1 (pos x.first), StandsBy-current t e r.numbers 3 (pos 0) x.first (omega arith) (omega (arith, ints)) r.first_in r.stands)
 append-follows listed (line ∷ more) s start st t e x r = append-some listed line more s start st t e x r
 
-pub delete-follows : (listed : Bool) (s : State) (start : editor.State) → Begins s start → (t : State) (e : editor.State) (x : Span) → Ranges t e x →
+pub delete-follows : (listed : Bool) (s : State) (start : editor.State) → Begins s start → (t : State) (e : editor.State) (x : Span) → InRange e t x →
     Follows listed start (modified listed s (replaced 0 t)) (Makes (effects.delete x e))
-delete-follows listed s start st t e x r =
+delete-follows listed s start st t e x k =
+    let r : Ranges t e x = k.0 in
     let hf = r.from in
     let hfl = r.order in
     let hlc = r.spans.last_in in
     let size : length (parts.replaced x.first x.last [] e.lines) ≡ length e.lines + x.first - (x.last + 1) = length-replaced e.lines [] x.first x.last hf hfl hlc ∙ (omega arith) in
-    let q = HoldsBy-replaced t e x [] r (λ y. refl) (min x.first (length (parts.replaced x.first x.last [] e.lines))) (ap (min x.first) size) in
+    let q = HoldsBy-replaced t e x [] k (λ y. refl) (min x.first (length (parts.replaced x.first x.last [] e.lines))) (ap (min x.first) size) in
     altered-aside listed s t (replaced 0 t) start e st r.spans.stands.remembered r.spans.stands.past q.aside
     (parts.replaced x.first x.last [] e.lines) (min x.first (length (parts.replaced x.first x.last [] e.lines))) q.numbers q.buffer
 
@@ -159,15 +164,16 @@ insert-follows listed [] s start st t e x v stands f from h = insert-none listed
 insert-follows listed (line ∷ more) s start st t e x v stands f from h = insert-some listed line more s start st t e x.first v stands f from h
 
 -- `c`
-pub change-follows : (listed : Bool) (text : List (List ℕ)) (s : State) (start : editor.State) → Begins s start → (t : State) (e : editor.State) (x : Span) → Ranges t e x →
+pub change-follows : (listed : Bool) (text : List (List ℕ)) (s : State) (start : editor.State) → Begins s start → (t : State) (e : editor.State) (x : Span) → InRange e t x →
     Follows listed start (modified listed s (replaced (length text) t)) (Makes (effects.change text x e))
-change-follows listed [] s start st t e x r = delete-follows listed s start st t e x r
-change-follows listed (line ∷ more) s start st t e x r =
+change-follows listed [] s start st t e x k = delete-follows listed s start st t e x k
+change-follows listed (line ∷ more) s start st t e x k =
+    let r : Ranges t e x = k.0 in
     let text : List (List ℕ) = line ∷ more in
     let new : List Line = map plain_line text in
     let n : length new ≡ length text = length-map text plain_line in
     let from = r.from in
-    let q = HoldsBy-replaced t e x new r (λ y. line_with-plain y text) (x.first - 1 + length text) (omega arith) in
+    let q = HoldsBy-replaced t e x new k (λ y. line_with-plain y text) (x.first - 1 + length text) (omega arith) in
     subst (λ (m : ℕ). Follows listed start (modified listed s (replaced m t)) (Makes (effects.change text x e))) n
     (altered-aside listed s t (replaced (length new) t) start e st r.spans.stands.remembered r.spans.stands.past q.aside (parts.replaced x.first x.last new e.lines) (x.first - 1 + length text) q.numbers q.buffer)
 
@@ -179,12 +185,13 @@ join-changes x e h = rw (lt-ltb x.first x.last h, effects.join) refl
 pub join-stays : (x : Span) (e : editor.State) → x.last ≤ x.first → effects.join x e ≡ effects.only e []
 join-stays x e h = rw (le-ltb x.first x.last h, effects.join) refl
 
-join-many : (listed : Bool) (s : State) (start : editor.State) → Begins s start → (t : State) (e : editor.State) (x : Span) → Ranges t e x → x.first < x.last →
+join-many : (listed : Bool) (s : State) (start : editor.State) → Begins s start → (t : State) (e : editor.State) (x : Span) → InRange e t x → x.first < x.last →
     Follows listed start (modified listed s (replaced 1 t)) (Makes (effects.join x e))
-join-many listed s start st t e x r h =
+join-many listed s start st t e x k h =
+    let r : Ranges t e x = k.0 in
     let line : List ℕ = concat (texts (parts.between x.first x.last e.lines)) in
     let new : List Line = plain_line line ∷ [] in
-    let q = HoldsBy-replaced t e x new r (λ y. line_with-plain y (line ∷ [])) x.first (omega arith) in
+    let q = HoldsBy-replaced t e x new k (λ y. line_with-plain y (line ∷ [])) x.first (omega arith) in
     subst (λ (o : effects.Outcome). Follows listed start (modified listed s (replaced 1 t)) (Makes o)) (sym (join-changes x e h))
     (altered-aside listed s t (replaced 1 t) start e st r.spans.stands.remembered r.spans.stands.past q.aside (parts.replaced x.first x.last new e.lines) x.first q.numbers q.buffer)
 
@@ -195,9 +202,16 @@ join-one listed start t e x r h =
 Ranges-guarded : (t : State) (e : editor.State) (x : Span) (a b : ℕ) (c : ℤ) (r : Ranges t e x) → a < 32 → b < 32 → (r.spans.numbers a -ℤ r.spans.numbers b) ≤ℤ c → Ranges (with_zone (after_guard t.zone a b c) t) e x
 Ranges-guarded t e x a b c r ha hb h = Ranges-by r refl (StandsBy-guarded t e r.spans.numbers a b c ha hb h r.spans.stands)
 
-pub join-follows : (listed : Bool) (s : State) (start : editor.State) → Begins s start → (t : State) (e : editor.State) (x : Span) → Ranges t e x →
+InRange-guarded : (t : State) (e : editor.State) (x : Span) (a b : ℕ) (c : ℤ) (k : InRange e t x) → a < 32 → b < 32 → (k.0.spans.numbers a -ℤ k.0.spans.numbers b) ≤ℤ c →
+    InRange e (with_zone (after_guard t.zone a b c) t) x
+unfolding Ranges-by Spans-by
+InRange-guarded t e x a b c k ha hb h =
+    (Ranges-by k.0 refl (StandsBy-guarded t e k.0.spans.numbers a b c ha hb h k.0.spans.stands), k.1)
+
+pub join-follows : (listed : Bool) (s : State) (start : editor.State) → Begins s start → (t : State) (e : editor.State) (x : Span) → InRange e t x →
     Follows listed start (joined listed s t) (Makes (effects.join x e))
-join-follows listed s start st t e x r =
+join-follows listed s start st t e x range =
+    let r : Ranges t e x = range.0 in
     let v : Numbers = r.spans.numbers in
     let f = r.spans.first_is in
     let l = r.spans.last_is in
@@ -213,11 +227,11 @@ join-follows listed s start st t e x r =
           (elim (known t.zone 3 4 (negsuc 0)) as (λ b. known t.zone 3 4 (negsuc 0) ≡ b → F (cond b (modified listed s (replaced 1 t)) (join many one))) [
             | true ↦ λ k.
                 let d = known-true t.zone v 3 4 (negsuc 0) k (omega arith) (omega arith) r.spans.stands.buffer.holds in
-                join-many listed s start st t e x r (omega (arith, ints))
+                join-many listed s start st t e x range (omega (arith, ints))
             | false ↦ λ _.
                 elim (cases_lt x.first x.last) [
                   | inl h ↦
-                      let q = join-many listed s start st (with_zone (after_guard t.zone 3 4 (negsuc 0)) t) e x (Ranges-guarded t e x 3 4 (negsuc 0) r (omega arith) (omega arith) (omega (arith, ints))) h in
+                      let q = join-many listed s start st (with_zone (after_guard t.zone 3 4 (negsuc 0)) t) e x (InRange-guarded t e x 3 4 (negsuc 0) range (omega arith) (omega arith) (omega (arith, ints))) h in
                       Stands-join many one (settled listed (editor.kept start) (effects.join x e)) q
                   | inr h ↦
                       let q = join-one listed start one e x (Ranges-guarded t e x 4 3 (pos 0) r (omega arith) (omega arith) (omega (arith, ints))) h in
@@ -363,9 +377,17 @@ HoldsBy-moved marks lines v u current zone q u0 u1 u2 inside = (
 )
 
 module _ (listed : Bool) (s : State) (start : editor.State) (st : Begins s start) (t : State) (e : editor.State) (x : Span) (target : ℕ)
-    (r : Ranges t e x) (v5 : r.spans.numbers 5 ≡ pos target) (target_in : target ≤ length e.lines) (marked : WellMarked e.lines) where
-  move-up : target < x.first → Agrees (Follows listed start) (Ok (modified listed s (with_zone (moved_up t.marks t.zone) t))) (making (effects.move x target e))
-  move-up h =
+    (r : Ranges t e x) (followed : FollowedHold t r.spans.numbers e.lines) (v5 : r.spans.numbers 5 ≡ pos target) (target_in : target ≤ length e.lines)
+    (marked : WellMarked e.lines) where
+  -- what a move up leaves, with any zone that holds before it
+  abbrev up_lines : List Line
+  up_lines = parts.carried (x.first - 1) x.last target e.lines
+
+  abbrev up_current : ℕ
+  up_current = target + length (parts.between x.first x.last e.lines)
+
+  up-holds : target < x.first → (zone : Bounds) → Holds zone r.spans.numbers → (w : Numbers) × HoldsBy (moved_up t.marks zone) t.marks up_lines up_current w
+  up-holds h zone holds =
       let v : Numbers = r.spans.numbers in
       let b = r.spans.stands.buffer in
       let from = r.from in
@@ -378,15 +400,30 @@ module _ (listed : Bool) (s : State) (start : editor.State) (st : Begins s start
       let many : length (parts.between x.first x.last e.lines) ≡ x.last + 1 - x.first = length-between x.first x.last e.lines from order inside in
       let same : current ≡ target + (x.last - a) = omega arith in
       let size : length lines ≡ length e.lines = length-carried e.lines a x.last target (omega arith) inside (omega arith) in
-      let q = up-all e.lines a x.last target (omega arith) inside marked t.marks t.zone v b.holds f r.spans.last_is v5
+      let q = up-all e.lines a x.last target (omega arith) inside marked t.marks zone v holds f r.spans.last_is v5
       (λ y hy k. OnLine-reads y e.lines v (b.reads.marks_are y hy k)) (omega arith) in
       let u : Numbers = updated v 1 (pos (target + (x.last - a))) in
-      let o = HoldsBy-moved t.marks lines v u current (moved_up t.marks t.zone) q b.reads.zero_is (ap pos (sym same)) (b.reads.last_is ∙ ap pos (sym size)) (omega arith) in
-      Agrees-ok (Follows listed start) _ (Makes (effects.altered lines current e)) (making (effects.move x target e)) (ap (λ (y : Result effects.Outcome Fault). making y) (move-up-is x target e h order))
-      (altered-follows listed s (with_zone (moved_up t.marks t.zone) t) start e st r.spans.stands.remembered r.spans.stands.past lines current o.0 o.1)
+      HoldsBy-moved t.marks lines v u current (moved_up t.marks zone) q b.reads.zero_is (ap pos (sym same)) (b.reads.last_is ∙ ap pos (sym size)) (omega arith)
 
-  move-down : x.last < target → Agrees (Follows listed start) (Ok (modified listed s (with_zone (moved_down t.marks t.zone) t))) (making (effects.move x target e))
-  move-down h =
+  up-follows : target < x.first → (zone : Bounds) (w : Numbers) → HoldsBy zone t.marks up_lines up_current w →
+      Agrees (Follows listed start) (Ok (modified listed s (with_zone zone t))) (making (effects.move x target e))
+  up-follows h zone w b =
+      Agrees-ok (Follows listed start) _ (Makes (effects.altered up_lines up_current e)) (making (effects.move x target e))
+      (ap (λ (y : Result effects.Outcome Fault). making y) (move-up-is x target e h r.order))
+      (altered-follows listed s (with_zone zone t) start e st r.spans.stands.remembered r.spans.stands.past up_lines up_current w b)
+
+  move-up : target < x.first → Agrees (Follows listed start) (Ok (modified listed s (with_zone (moved_up t.marks t.zone) t))) (making (effects.move x target e))
+  move-up h = let o = up-holds h t.zone r.spans.stands.buffer.holds in up-follows h (moved_up t.marks t.zone) o.0 o.1
+
+  -- the same of a move down
+  abbrev down_lines : List Line
+  down_lines = parts.carried (x.first - 1) x.last (target - (x.last + 1 - x.first)) e.lines
+
+  abbrev down_current : ℕ
+  down_current = target - (x.last + 1 - x.first) + length (parts.between x.first x.last e.lines)
+
+  down-holds : x.last < target → (zone : Bounds) → Holds zone r.spans.numbers → (w : Numbers) × HoldsBy (moved_down t.marks zone) t.marks down_lines down_current w
+  down-holds h zone holds =
       let v : Numbers = r.spans.numbers in
       let b = r.spans.stands.buffer in
       let from = r.from in
@@ -400,13 +437,60 @@ module _ (listed : Bool) (s : State) (start : editor.State) (st : Begins s start
       let many : length (parts.between x.first x.last e.lines) ≡ x.last + 1 - x.first = length-between x.first x.last e.lines from order inside in
       let same : current ≡ target = omega arith in
       let size : length lines ≡ length e.lines = length-carried e.lines a x.last (target - (x.last + 1 - x.first)) (omega arith) inside (omega arith) in
-      let q = down-all e.lines a x.last target (omega arith) inside marked t.marks t.zone v b.holds f r.spans.last_is v5
+      let q = down-all e.lines a x.last target (omega arith) inside marked t.marks zone v holds f r.spans.last_is v5
       (λ y hy k. OnLine-reads y e.lines v (b.reads.marks_are y hy k)) h target_in in
       let u : Numbers = updated v 1 (pos target) in
-      let at : Pushed t.marks lines u 26 (moved_down t.marks t.zone) = subst (λ (n : ℕ). Pushed t.marks (parts.carried a x.last (target - n) e.lines) u 26 (moved_down t.marks t.zone)) (sym away) q in
-      let o = HoldsBy-moved t.marks lines v u current (moved_down t.marks t.zone) at b.reads.zero_is (ap pos (sym same)) (b.reads.last_is ∙ ap pos (sym size)) (omega arith) in
-      Agrees-ok (Follows listed start) _ (Makes (effects.altered lines current e)) (making (effects.move x target e)) (ap (λ (y : Result effects.Outcome Fault). making y) (move-down-is x target e order h))
-      (altered-follows listed s (with_zone (moved_down t.marks t.zone) t) start e st r.spans.stands.remembered r.spans.stands.past lines current o.0 o.1)
+      let at : Pushed t.marks lines u 26 (moved_down t.marks zone) = subst (λ (n : ℕ). Pushed t.marks (parts.carried a x.last (target - n) e.lines) u 26 (moved_down t.marks zone)) (sym away) q in
+      HoldsBy-moved t.marks lines v u current (moved_down t.marks zone) at b.reads.zero_is (ap pos (sym same)) (b.reads.last_is ∙ ap pos (sym size)) (omega arith)
+
+  down-follows : x.last < target → (zone : Bounds) (w : Numbers) → HoldsBy zone t.marks down_lines down_current w →
+      Agrees (Follows listed start) (Ok (modified listed s (with_zone zone t))) (making (effects.move x target e))
+  down-follows h zone w b =
+      Agrees-ok (Follows listed start) _ (Makes (effects.altered down_lines down_current e)) (making (effects.move x target e))
+      (ap (λ (y : Result effects.Outcome Fault). making y) (move-down-is x target e r.order h))
+      (altered-follows listed s (with_zone zone t) start e st r.spans.stands.remembered r.spans.stands.past down_lines down_current w b)
+
+  move-down : x.last < target → Agrees (Follows listed start) (Ok (modified listed s (with_zone (moved_down t.marks t.zone) t))) (making (effects.move x target e))
+  move-down h = let o = down-holds h t.zone r.spans.stands.buffer.holds in down-follows h (moved_down t.marks t.zone) o.0 o.1
+
+  -- the line is told from the target's, so that is above it or after it, where it is a line at all
+  target-differs : is_target_told_apart t ≡ true → x.first ≤ target → target ≤ x.last → ⊥
+  target-differs k low high =
+      let v : Numbers = r.spans.numbers in
+      let holds = r.spans.stands.buffer.holds in
+      let p = and_parts t.follows _ k in
+      let q = and_parts (known t.zone 4 3 (pos 0)) _ p.1 in
+      let w = and_parts (not (same t.zone 5 3)) (differ t.zone t.facts 5 3) q.1 in
+      let d = known-true t.zone v 4 3 (pos 0) q.0 (omega arith) (omega arith) holds in
+      let f = r.spans.first_is in
+      let l = r.spans.last_is in
+      let from = r.from in
+      let inside = r.spans.first_in in
+      let one : target ≡ x.first = omega (arith, ints) in
+      differ-true t.zone t.facts v e.lines 5 3 target x.first w.1 (omega arith) (omega arith) holds (followed p.0) v5 (omega arith) target_in f from inside one
+
+  move-either : is_target_told_apart t ≡ true → Agrees (Follows listed start) (Ok (modified listed s (with_zone (moved_either t.marks t.zone) t))) (making (effects.move x target e))
+  unfolding moved_either
+  move-either k =
+      let v : Numbers = r.spans.numbers in
+      let holds = r.spans.stands.buffer.holds in
+      let f = r.spans.first_is in
+      let l = r.spans.last_is in
+      let above : Bounds = after_guard t.zone 5 3 (negsuc 0) in
+      let below : Bounds = after_guard t.zone 4 5 (negsuc 0) in
+      elim (cases_lt target x.first) [
+        | inl up ↦
+            let o = up-holds up above (Holds-after_guard t.zone 5 3 (negsuc 0) v (omega arith) (omega arith) holds (omega (arith, ints))) in
+            up-follows up (moved_either t.marks t.zone) o.0
+            (record { holds = Holds-join_of (moved_up t.marks above) (moved_down t.marks below) o.0 (o.1).holds; reads = (o.1).reads; inside = (o.1).inside })
+        | inr low ↦ elim (cases_lt x.last target) [
+          | inl down ↦
+              let o = down-holds down below (Holds-after_guard t.zone 4 5 (negsuc 0) v (omega arith) (omega arith) holds (omega (arith, ints))) in
+              down-follows down (moved_either t.marks t.zone) o.0
+              (record { holds = Holds-join_of_other (moved_up t.marks above) (moved_down t.marks below) o.0 (o.1).holds; reads = (o.1).reads; inside = (o.1).inside })
+          | inr high ↦ absurd (target-differs k low high)
+        ]
+      ]
 
   pub move-follows : Agrees (Follows listed start) (moved_lines listed s t) (making (effects.move x target e))
   move-follows =
@@ -415,16 +499,21 @@ module _ (listed : Bool) (s : State) (start : editor.State) (st : Begins s start
       let l = r.spans.last_is in
       let y : Result Effect Fault = making (effects.move x target e) in
       let go : Bounds → Result State Fault = λ (z : Bounds). Ok (modified listed s (with_zone z t)) in
+      let either : Result Bounds Fault = cond (is_target_told_apart t) (Ok (moved_either t.marks t.zone)) (Err fault.Destination) in
       (elim (known t.zone 5 3 (negsuc 0)) as (λ c. known t.zone 5 3 (negsuc 0) ≡ c →
-      Agrees (Follows listed start) (cond c (Ok (moved_up t.marks t.zone)) (cond (known t.zone 4 5 (negsuc 0)) (Ok (moved_down t.marks t.zone)) (Err fault.Destination)) >> go) y) [
+      Agrees (Follows listed start) (cond c (Ok (moved_up t.marks t.zone)) (cond (known t.zone 4 5 (negsuc 0)) (Ok (moved_down t.marks t.zone)) either) >> go) y) [
         | true ↦ λ k.
             let d = known-true t.zone v 5 3 (negsuc 0) k (omega arith) (omega arith) r.spans.stands.buffer.holds in
             move-up (omega (arith, ints))
         | false ↦ λ _.
-            (elim (known t.zone 4 5 (negsuc 0)) as (λ c. known t.zone 4 5 (negsuc 0) ≡ c → Agrees (Follows listed start) (cond c (Ok (moved_down t.marks t.zone)) (Err fault.Destination) >> go) y) [
+            (elim (known t.zone 4 5 (negsuc 0)) as (λ c. known t.zone 4 5 (negsuc 0) ≡ c → Agrees (Follows listed start) (cond c (Ok (moved_down t.marks t.zone)) either >> go) y) [
               | true ↦ λ k.
                   let d = known-true t.zone v 4 5 (negsuc 0) k (omega arith) (omega arith) r.spans.stands.buffer.holds in
                   move-down (omega (arith, ints))
-              | false ↦ λ _. tt
+              | false ↦ λ _.
+                  (elim (is_target_told_apart t) as (λ c. is_target_told_apart t ≡ c → Agrees (Follows listed start) (cond c (Ok (moved_either t.marks t.zone)) (Err fault.Destination) >> go) y) [
+                    | true ↦ λ k. move-either k
+                    | false ↦ λ _. tt
+                  ]) refl
             ]) refl
       ]) refl

@@ -6,19 +6,20 @@ use Rattle.std.proofs.lemmas.Bool.{and_parts, ltb-true, cases_lt}
 use Rattle.std.proofs.Math.Seq.{map-set_same}
 use Rattle.ed_base.specs.declared.fault.Fault.{Fault}
 use Rattle.ed_base.specs.declared.fault.Fault.TheVariants as fault
-use Rattle.ed_base.specs.Lines.{newline, lines_of}
+use Rattle.ed_base.specs.Lines.{newline, lines_of, IsLine}
 use Rattle.ed_base.specs.Buffer.{Line, plain_line, with_letter, marked_at, texts, KnowLetters}
-use Rattle.std.proofs.Common.{zero, suc, map, get_or, All}
+use Rattle.std.proofs.Common.{zero, suc, map, get_or, take, All}
 use Rattle.std.specs.List.{concat, range_with_len}
-use Rattle.std.proofs.lemmas.List.Elements.{All-nil, All-cons}
+use Rattle.std.proofs.lemmas.List.Elements.{All-nil, All-cons, All-take, All-drop}
 use Rattle.ed_base.specs.Parts as parts
 use Rattle.ed_base.specs.Parts.{between}
 use Rattle.zones.specs.Name.{mark}
 use Rattle.zones.specs.Steps.{after_guard}
-use Rattle.zones.specs.Zone.{Numbers, updated}
+use Rattle.zones.specs.Zone.{Bounds, Numbers, updated}
 use Rattle.zones.specs.Known.{known}
 use Rattle.zones.proofs.Known.{known-true}
 use Rattle.ed_syntax.specs.declared.verbs.Taking.TheVariants as many
+use Rattle.ed_syntax.specs.declared.command.Sense.{Sense}
 use Rattle.ed_syntax.specs.declared.replacement.Part.{Part}
 use Rattle.ed_syntax.specs.declared.replacement.Which.{Which}
 use Rattle.ed_syntax.specs.declared.request.Answer.{Answer}
@@ -28,12 +29,13 @@ use Rattle.ed_syntax.specs.Commands.{Address, Addresses, Without, One, Comma, Se
 use Rattle.ed_syntax.specs.meaning.States as editor
 use Rattle.ed_syntax.specs.meaning.States.{Kept, kept}
 use Rattle.ed_syntax.specs.meaning.Verbs.{takes, given_or}
-use Rattle.ed_syntax.specs.meaning.Values.{◌>>◌, values}
+use Rattle.ed_syntax.specs.meaning.Values.{◌>>◌, values, used_pattern}
 use Rattle.ed_syntax.specs.meaning.Ranges.{Span, span, last_of_two, spanned}
 use Rattle.ed_syntax.specs.meaning.Effects as effects
 use Rattle.ed_syntax.specs.meaning.Effects.{Outcome, Effect, Makes, Asks}
-use Rattle.ed_syntax.specs.meaning.CommandLaws.{AreWhole, WellMarked}
-use Rattle.ed_syntax.specs.meaning.SubstitutedLines.{substitute}
+use Rattle.ed_syntax.specs.meaning.CommandLaws.{AreWhole, WellMarked, InOrder, SpansAreInOrder}
+use Rattle.ed_syntax.specs.meaning.Globals.{flagged}
+use Rattle.ed_syntax.specs.meaning.SubstitutedLines.{Results, substitute}
 use Rattle.ed_syntax.specs.meaning.Applied as concrete
 use Rattle.ed_syntax.specs.meaning.Applied.{making, settled, completed, suffix_written, effect_of, command}
 use Rattle.ed_syntax.specs.meaning.Files as file
@@ -42,10 +44,10 @@ use Rattle.ed_syntax.proofs.meaning.ResultLemmas.{IfOk-bind}
 use Rattle.ed_rules.specs.declared.known_matches.Matches.{Matches}
 use Rattle.ed_rules.specs.declared.state.State.{State}
 use Rattle.ed_rules.specs.States.{old_of}
-use Rattle.ed_rules.specs.StandsFor.{allows_replacement, Reads, StandsBy, StandsFor}
+use Rattle.ed_rules.specs.StandsFor.{allows_replacement, Reads, HoldsBy, StandsBy, StandsFor}
 use Rattle.ed_rules.specs.Pieces.{needing, with_zone, modified, replaced, ended}
-use Rattle.ed_rules.specs.Addresses.{addressed, standing, last_given, targeted, ranged}
-use Rattle.ed_rules.specs.Lines.{appended, put_before, changed_to, deleted, joined, joined_given, marked, current_at, copied_lines}
+use Rattle.ed_rules.specs.Addresses.{possible_patterns, addressed, standing, last_given, targeted, ranged}
+use Rattle.ed_rules.specs.Lines.{appended, put_before, changed_to, deleted, joined_given, marked, current_at, copied_lines}
 use Rattle.ed_rules.specs.Move.{moved_lines}
 use Rattle.ed_rules.specs.Order.{join}
 use Rattle.ed_rules.specs.declared.matching.Certainty.TheVariants.{Never, Maybe, Surely}
@@ -53,11 +55,12 @@ use Rattle.ed_rules.specs.Marks.{is_sure}
 use Rattle.ed_rules.specs.Texts.{with_texts}
 use Rattle.ed_rules.specs.Following.{patterns_of}
 use Rattle.ed_rules.specs.declared.state.Old.{Old}
-use Rattle.ed_rules.specs.Files.{named, named_first, named_anew, whole_or_ranged, changed_by_write, file_read, file_written, file_named, saved}
+use Rattle.ed_rules.specs.Files.{named, named_first, named_anew, whole_or_ranged, file_read, file_written, file_named}
+use Rattle.ed_rules.specs.Choices.{Choice, has_choice, texts_of}
 use Rattle.ed_rules.specs.Matched.{gained}
 use Rattle.ed_rules.specs.Matching.{joining_given, saying, matches_after}
-use Rattle.ed_rules.specs.FactsAfter.{facts_ended, facts_as, facts_inserted, stays_marked, letters_that_stay, facts_edited, facts_changed, facts_joined, facts_moved, facts_substituted, facts_left, facts_after}
-use Rattle.ed_rules.specs.Substituting.{substituted}
+use Rattle.ed_rules.specs.FactsAfter.{facts_ended, facts_as, facts_inserted, stays_marked, letters_that_stay, facts_edited, facts_changed, facts_maybe_joined, facts_joined, facts_moved, facts_spared, facts_substituted, facts_left, facts_after}
+use Rattle.ed_rules.specs.Substituting.{pattern_used, substituted}
 use Rattle.ed_rules.specs.Undoing.{undone}
 use Rattle.ed_rules.specs.Rules.{taken, effect, suffixed, step_at, step}
 use Rattle.ed_rules.specs.facts.Facts.{Facts, FactsHold, ReadsEnds, no_facts}
@@ -68,21 +71,29 @@ use Rattle.ed_rules.specs.facts.EditHolds.{LetterStays, Takes, FactsAreLeft}
 use Rattle.ed_rules.proofs.facts.FactsLeft.{delete-left, change-left, append-left, insert-left, join-left, rewrite-left, add-left, copy-left}
 use Rattle.ed_rules.proofs.facts.FactsCarried.{carry-left}
 use Rattle.ed_rules.proofs.Basics.{Agrees, Agrees-weaker}
+use Rattle.ed_rules.proofs.CoveringStates.{sure-both}
+use Rattle.ed_rules.proofs.sound.Weaker.{HoldsBy-fewer}
+use Rattle.zones.proofs.Soundness.{Holds-after_guard}
 use Rattle.ed_rules.proofs.facts.FactsByBytes.{FactsHold-bytes}
-use Rattle.ed_rules.proofs.facts.FactsEnded.{ended-agreed}
+use Rattle.ed_rules.proofs.facts.FactsEnded.{spoken-agreed, ended-agreed}
+use Rattle.ed_rules.proofs.facts.FactsOrdered.{FactsHold-both, FactsHold-both_other}
+use Rattle.ed_rules.specs.facts.FactOrder.{both_facts}
 use Rattle.ed_rules.proofs.facts.PrunedFacts.{pruned-hold}
 use Rattle.ed_rules.proofs.facts.FoundLines.{filter-both, FactsHold-without}
 use Rattle.ed_rules.proofs.sound.Standing.{Begins, Reads-current, nothing-holds}
-use Rattle.ed_rules.proofs.sound.Spans.{Spans, Ranges}
 use Rattle.ed_rules.proofs.sound.Following.{FollowedHold, KnownAt, facts-set}
 use Rattle.ed_rules.proofs.sound.Addressing.{NamesOf, Addressed, AddressedIn, command_addressed}
 use Rattle.ed_rules.proofs.sound.Effects.{mark-follows, join-changes, join-stays, length-between, move-up-is, move-down-is, move-within-is}
 use Rattle.ed_rules.proofs.sound.Lettered.{lettered-marked}
-use Rattle.ed_rules.proofs.sound.Commanding.{command-is, IsGiven, given_or-given, Suits, suits, SpansKnown, last_given-known, AtLine, one_line-sound, FirstPlaces, first_place-sound, InRange, lines-sound, Targeted, targeted-sound, RangeAlso, range-also, range-known, names-given}
+use Rattle.ed_rules.proofs.sound.Commanding.{command-is, IsGiven, given_or-given, Suits, suits, SpansKnown, last_given-known, AtLine, one_line-sound, FirstPlaces, first_place-sound, lines-sound, Targeted, targeted-sound, TargetFollowed, RangeAlso, range-also, range-in, range-known, names-given}
+use Rattle.ed_rules.proofs.sound.Spans.{InRange}
 use Rattle.ed_rules.proofs.sound.SubstitutionEffects.{RangesKnown, allows-plain, substitute-follows}
 use Rattle.ed_rules.proofs.sound.GlobalEffects.{IsUndone, undo-known}
-use Rattle.ed_rules.proofs.sound.SubstitutedLine.{IsRewritten, substitute-rewrites}
+use Rattle.ed_rules.proofs.sound.SubstitutedLine.{IsRewritten, substitute-rewrites, IsPut, substitute-puts}
+use Rattle.ed_rules.proofs.facts.FactsSpared.{one_made, made-each-one, made-alike, spare-left}
+use Rattle.ed_syntax.specs.meaning.SubstitutedLines.{each, made_of}
 use Rattle.ed_rules.proofs.sound.Finishing.{Follows}
+use Rattle.ed_rules.proofs.sound.Flags.{Alike, HoldsBy-alike, texts-alike, alike-taken}
 use Rattle.ed_rules.proofs.sound.Outcomes.{always, OnMade, OnMade-bind}
 use Rattle.ed_rules.proofs.through.Needs.{needed}
 use Rattle.ed_rules.proofs.through.Steps.{suffixed-through}
@@ -181,12 +192,19 @@ leaves-none watched listed given verb u r o is =
     leaves-by watched listed given verb u r o
     (λ _. subst (λ (f : Facts). ReadFacts (facts_ended r.marks f) r.marks o.state) (sym is) (nothing-read r.marks o.state))
 
--- the lines stay, and the line that is current
+-- the lines stay, but maybe their flags, and the line that is current
 abbrev StaysAt : editor.State → Outcome → Type 0
-StaysAt q o = (o.state.lines ≡ q.lines) × (o.state.current ≡ q.current)
+StaysAt q o = Alike q.lines o.state.lines × (o.state.current ≡ q.current)
 
 abbrev SameMarks : State → State → Type 0
 SameMarks u r = r.marks ≡ u.marks
+
+stays-read : (u : State) (q : editor.State) (o : Outcome) → KnownAt u q → StaysAt q o → u.follows ≡ true →
+    ReadFacts (facts_ended u.marks u.facts) u.marks o.state
+stays-read u q o k at e w r =
+    let same : HoldsBy u.zone u.marks o.state.lines q.current k.0 = HoldsBy-alike u.zone u.marks q.lines o.state.lines q.current k.0 at.0 k.1.buffer in
+    ended-agreed u.marks o.state.lines q.current k.0 w same.reads (subst (λ (n : ℕ). Reads u.marks o.state.lines n w) at.1 r) u.facts
+    (FactsHold-bytes u.facts k.0 q.lines o.state.lines (texts-alike q.lines o.state.lines at.0) (k.2 e))
 
 kept-read : (u : State) (q : editor.State) → KnownAt u q → u.follows ≡ true → ReadFacts (facts_ended u.marks u.facts) u.marks q
 kept-read u q k e w r = ended-agreed u.marks q.lines q.current k.0 w k.1.buffer.reads r u.facts (k.2 e)
@@ -196,10 +214,7 @@ kept-leaves : (watched : List (List ℕ)) (listed : Bool) (given : Addresses) (v
 kept-leaves watched listed given verb u r q o k is same at =
     leaves-by watched listed given verb u r o
     (λ e. subst (λ (f : Facts). ReadFacts (facts_ended r.marks f) r.marks o.state) (sym is)
-    (subst (λ (marks : List Bool). ReadFacts (facts_ended marks u.facts) marks o.state) (sym same)
-    (λ w r. let reads : Reads u.marks q.lines q.current w =
-    subst (λ (n : ℕ). Reads u.marks q.lines n w) at.1 (subst (λ (ls : List Line). Reads u.marks ls o.state.current w) at.0 r) in
-    subst (λ (ls : List Line). FactsHold (facts_ended u.marks u.facts) w ls) (sym at.0) (kept-read u q k e w reads))))
+    (subst (λ (marks : List Bool). ReadFacts (facts_ended marks u.facts) marks o.state) (sym same) (stays-read u q o k at e)))
 
 -- another line is current
 current-read : (y n : ℕ) (u : State) (q : editor.State) (v : Numbers) → y < 32 → v y ≡ pos n → StandsBy u q v → FactsHold u.facts v q.lines →
@@ -270,12 +285,16 @@ letters-stay e b after =
     let three = and_parts (is_sure after x) (stays b.zone b.facts e (mark x)) two.1 in
     (l, two.0, three.0, three.1))
 
+edited-holds : (more : List (List ℕ)) (e : Edit) (u : State) (after : List Bool) (made : editor.State) → FactsAreLeft u.zone u.facts u.marks e made →
+    ReadFacts (facts_edited more e (old_of u) after) after made
+unfolding facts_edited
+edited-holds more e u after made left w r =
+    left (letters_that_stay e (old_of u) after) (with_texts more (patterns_of u.facts)) after w r (letters-stay e (old_of u) after)
+
 edited-read : (more : List (List ℕ)) (e : Edit) (u : State) (after : List Bool) (made : editor.State) → FactsAreLeft u.zone u.facts u.marks e made →
     ReadFacts (facts_ended after (facts_edited more e (old_of u) after)) after made
-unfolding facts_edited
 edited-read more e u after made left w r =
-    ended-agreed after made.lines made.current w w r r (facts_edited more e (old_of u) after)
-    (left (letters_that_stay e (old_of u) after) (with_texts more (patterns_of u.facts)) after w r (letters-stay e (old_of u) after))
+    ended-agreed after made.lines made.current w w r r (facts_edited more e (old_of u) after) (edited-holds more e u after made left w r)
 
 range-takes : (u : State) (q : editor.State) (x : Span) (r : InRange q u x) → u.follows ≡ true → Takes u.zone u.facts u.marks r.0.spans.numbers q x
 range-takes u q x r f = record {
@@ -306,9 +325,57 @@ module _ (listed : Bool) (s u : State) (q : editor.State) (x : Span) (k : InRang
       cond one u (cond many sure_join (join (modified listed s (replaced 1 (with_zone (after_guard u.zone 3 4 (negsuc 0)) u)))
       (with_zone (after_guard u.zone 4 3 (pos 0)) u)))
 
+  joined_line : List ℕ
+  joined_line = concat (texts (between x.first x.last q.lines))
+
+  -- several lines are joined
+  many-joined : u.follows ≡ true → x.first < x.last → (after : List Bool) → ReadFacts (facts_ended after (facts_maybe_joined (old_of u) after)) after (effects.join x q).state
+  unfolding facts_maybe_joined joined_line
+  many-joined f lt after =
+      let v : Numbers = k.0.spans.numbers in
+      let first = k.0.spans.first_is in
+      let last = k.0.spans.last_is in
+      let guarded : State = with_zone (after_guard u.zone 3 4 (negsuc 0)) u in
+      let takes : Takes guarded.zone guarded.facts guarded.marks v q x = record {
+        holds = Holds-after_guard u.zone 3 4 (negsuc 0) v (omega arith) (omega arith) k.0.spans.stands.buffer.holds (omega (arith, ints));
+        facts_hold = k.1 f;
+        reads = k.0.spans.stands.buffer.reads;
+        first_is = first;
+        last_is = last;
+        inside = k.0.spans.last_in;
+      } in
+      let one : Facts = facts_edited [] joining (old_of guarded) after in
+      let other : Bounds = after_guard u.zone 4 3 (pos 0) in
+      let made : editor.State = (effects.altered (parts.replaced x.first x.last (plain_line joined_line ∷ []) q.lines) x.first q).state in
+      subst (λ (o : Outcome). ReadFacts (facts_ended after (facts_maybe_joined (old_of u) after)) after o.state) (sym (join-changes x q lt))
+      (λ w r. ended-agreed after made.lines made.current w w r r (facts_maybe_joined (old_of u) after)
+      (spoken-agreed after (both_facts one other u.facts) w w made.lines (λ y e. refl)
+      (FactsHold-both one other u.facts w made.lines
+      (edited-holds [] joining guarded after made (join-left guarded.zone guarded.facts guarded.marks v q x joined_line takes k.0.from k.0.order) w r))))
+
+  -- one line isn't
+  one-left : u.follows ≡ true → x.last ≤ x.first → (after : List Bool) → ((letter : ℕ) → letter < 26 → is_sure after letter ≡ true → is_sure u.marks letter ≡ true) →
+      ReadFacts (facts_ended after (facts_maybe_joined (old_of u) after)) after (effects.join x q).state
+  unfolding facts_maybe_joined
+  one-left f le after among =
+      let v : Numbers = k.0.spans.numbers in
+      let b = k.0.spans.stands.buffer in
+      let first = k.0.spans.first_is in
+      let last = k.0.spans.last_is in
+      let guarded : State = with_zone (after_guard u.zone 3 4 (negsuc 0)) u in
+      let one : Facts = facts_edited [] joining (old_of guarded) after in
+      let other : Bounds = after_guard u.zone 4 3 (pos 0) in
+      let few = HoldsBy-fewer u.zone other u.marks after q.lines q.current v among
+      (Holds-after_guard u.zone 4 3 (pos 0) v (omega arith) (omega arith) b.holds (omega (arith, ints))) b in
+      subst (λ (o : Outcome). ReadFacts (facts_ended after (facts_maybe_joined (old_of u) after)) after o.state) (sym (join-stays x q le))
+      (λ w r. ended-agreed after q.lines q.current v w few.reads r (facts_maybe_joined (old_of u) after)
+      (spoken-agreed after (both_facts one other u.facts) v v q.lines (λ y e. refl)
+      (FactsHold-both_other one other u.facts v q.lines few.holds (record { zero_is = b.reads.zero_is; last_is = b.reads.last_is }) (k.1 f))))
+
   join-read : (one many : Bool) → known u.zone 4 3 (pos 0) ≡ one → known u.zone 3 4 (negsuc 0) ≡ many → u.follows ≡ true →
       ReadFacts (facts_ended (joined_by one many).marks (facts_joined (cond one Never (cond many Surely Maybe)) (old_of u) (joined_by one many).marks))
       (joined_by one many).marks (effects.join x q).state
+  unfolding join
   join-read true many a b f =
       let d = known-true u.zone k.0.spans.numbers 4 3 (pos 0) a (omega arith) (omega arith) k.0.spans.stands.buffer.holds in
       let first = k.0.spans.first_is in
@@ -324,13 +391,12 @@ module _ (listed : Bool) (s u : State) (q : editor.State) (x : Span) (k : InRang
       (edited-read [] joining u r.marks
       (effects.altered (parts.replaced x.first x.last (plain_line (concat (texts (between x.first x.last q.lines))) ∷ []) q.lines) x.first q).state
       (join-left u.zone u.facts u.marks k.0.spans.numbers q x (concat (texts (between x.first x.last q.lines))) (range-takes u q x k f) k.0.from k.0.order))
-  join-read false false a b f = nothing-read (joined_by false false).marks (effects.join x q).state
-
--- the lines of a range, where what is said of single lines is true of the same numbers
-range-in : (a : Addresses) → IsGiven a → (t : State) (p : editor.State × List ℕ) (count : ℕ) → Addressed (NamesOf a) t p →
-    Agrees (InRange p.0) (ranged t) (spanned many.Range count p.1)
-range-in a g t p count h =
-    range-also (λ u v. FollowedHold u v p.0.lines) t p.0 p.1 h.numbers count h.stands (names-given a g p.1 p.0.lines h.numbers h.names) h.followed
+  join-read false false a b f =
+      let many : State = modified listed s (replaced 1 (with_zone (after_guard u.zone 3 4 (negsuc 0)) u)) in
+      elim (cases_lt x.first x.last) [
+        | inl lt ↦ many-joined f lt (joined_by false false).marks
+        | inr le ↦ one-left f le (joined_by false false).marks (λ letter l e. (sure-both many.marks u.marks letter l e).1)
+      ]
 
 -- with one address the lines are one
 abbrev JoinKnown : Addresses → editor.State → State → Span → Type 0
@@ -401,6 +467,9 @@ move-read u after q x t o k target fits marked f m w r =
 
 -- `s`
 
+settled-pattern : (listed : Bool) (k : Kept) (o : Outcome) → (settled listed k o).pattern ≡ o.state.pattern
+settled-pattern listed k o = elim o.alters as (λ b. (settled listed k (record o { alters = b })).pattern ≡ o.state.pattern) [ true ↦ refl | false ↦ refl ]
+
 settled-replacement : (listed : Bool) (k : Kept) (o : Outcome) → (settled listed k o).replacement ≡ o.state.replacement
 settled-replacement listed k o = elim o.alters as (λ b. (settled listed k (record o { alters = b })).replacement ≡ o.state.replacement) [ true ↦ refl | false ↦ refl ]
 
@@ -412,7 +481,7 @@ tells-follow R S Q (Ok t) (Ok (Asks r)) h k i = tt
 tells-follow R S Q (Ok t) (Ok (Makes o)) h k i = i t o h k
 
 module _ (pattern : Option (List ℕ)) (replacement : Option (List Part)) (choice : Which) (form : Option Form) (s : State) (e : editor.State) (begun : Begins s e) (u : State) (q : editor.State) (x : Span)
-    (k : RangesKnown u q x) (whole : AreWhole q.lines) where
+    (k : RangesKnown u q x) (whole : AreWhole q.lines) (marked : WellMarked q.lines) where
   abbrev rule : (listed : Bool) → Result State Fault
   rule listed = substituted listed pattern replacement choice s u
 
@@ -431,10 +500,49 @@ module _ (pattern : Option (List ℕ)) (replacement : Option (List Part)) (choic
       (rewrite-left u.zone u.facts u.marks k.0.spans.numbers q x r.replacements.split line.new o.state (range-takes u q x (k.0, (k.1).0) follows) k.0.from k.0.order
       (λ plain. line.one (allows-plain r.replacements line.parts allows plain)) line.plain line.lines line.current)
 
+  -- lines that surely stay
+  spared-read : u.follows ≡ true → (listed : Bool) (r : State) (o : Outcome) → Follows listed e r (Makes o) → IsPut choice x q o → r.replacements.split ≡ false →
+      ReadFacts (facts_ended r.marks (facts_spared (old_of u) r)) r.marks o.state
+  unfolding facts_spared
+  spared-read follows listed r o after put plain w reads =
+      let allows : allows_replacement r.replacements (Some put.parts) ≡ true =
+      subst (λ (parts : Option (List Part)). allows_replacement r.replacements parts ≡ true) (settled-replacement listed (kept e) o ∙ put.remembered) after.1.remembered.1 in
+      let possible : has_choice r.patterns (Some put.text) ≡ true =
+      subst (λ (text : Option (List ℕ)). has_choice r.patterns text ≡ true) (settled-pattern listed (kept e) o ∙ put.looked_for) after.1.remembered.0 in
+      let block : List Line = between x.first x.last q.lines in
+      let alike = made-alike put.text put.parts choice (allows-plain r.replacements put.parts allows plain) block
+      (All-drop (λ (line : Line). IsLine line.bytes) (x.first - 1) (take x.last q.lines) (All-take (λ (line : Line). IsLine line.bytes) x.last q.lines whole)) in
+      let lines : o.state.lines ≡ parts.replaced x.first x.last (each (one_made put.text put.parts choice) block).0 q.lines =
+      put.lines ∙ ap (λ (made : Results). parts.replaced x.first x.last made.0 q.lines) (sym alike) in
+      ended-agreed r.marks o.state.lines o.state.current w w reads reads (facts_spared (old_of u) r)
+      (subst (λ (ls : List Line). FactsHold (facts_spared (old_of u) r) w ls) (sym lines)
+      (spare-left (one_made put.text put.parts choice) (texts_of r.patterns) (made-each-one put.text put.parts choice r.patterns possible) u.zone u.facts u.marks r.marks k.0.spans.numbers w
+      q x o.state.current (range-takes u q x (k.0, (k.1).0) follows) k.0.from k.0.order marked
+      (subst (λ (ls : List Line). Reads r.marks ls o.state.current w) lines reads)
+      (letters_that_stay reading (old_of u) r.marks) (patterns_of u.facts) (letters-stay reading (old_of u) r.marks)))
+
+  abbrev LeavesRange : State → Outcome → Type 0
+  LeavesRange r o = ReadFacts (facts_ended r.marks (cond r.replacements.split no_facts (facts_spared (old_of u) r))) r.marks o.state
+
+  range-read : u.follows ≡ true → (listed : Bool) (r : State) (o : Outcome) → Follows listed e r (Makes o) → IsPut choice x q o → LeavesRange r o
+  range-read follows listed r o after put =
+      (elim r.replacements.split as (λ b. r.replacements.split ≡ b → ReadFacts (facts_ended r.marks (cond b no_facts (facts_spared (old_of u) r))) r.marks o.state) [
+        | true ↦ λ _. nothing-read r.marks o.state
+        | false ↦ λ plain. spared-read follows listed r o after put plain
+      ]) refl
+
+  range-told : u.follows ≡ true → (listed : Bool) →
+      Tells LeavesRange (rule listed) (done listed)
+  range-told follows listed =
+      tells-follow LeavesRange (Follows listed e) (IsPut choice x q) (rule listed) (done listed)
+      (substitute-follows listed pattern replacement choice form s e begun u q x k whole)
+      (substitute-puts listed pattern replacement choice form x q k.0.order) (range-read follows listed)
+
   line-told : u.follows ≡ true → Tells (LeavesLine false) (rule false) (done false)
   line-told follows =
       let Left : Bool → State → Outcome → Type 0 = λ (b : Bool) (r : State) (o : Outcome).
-      ReadFacts (facts_ended r.marks (cond b (facts_edited [] (rewriting r.replacements.split) (old_of u) r.marks) no_facts)) r.marks o.state in
+      ReadFacts (facts_ended r.marks (cond b (facts_edited [] (rewriting r.replacements.split) (old_of u) r.marks)
+      (cond r.replacements.split no_facts (facts_spared (old_of u) r)))) r.marks o.state in
       (elim (known u.zone 4 3 (pos 0)) as (λ b. known u.zone 4 3 (pos 0) ≡ b → Tells (Left b) (rule false) (done false)) [
         | true ↦ λ known_one.
             let d = known-true u.zone k.0.spans.numbers 4 3 (pos 0) known_one (omega arith) (omega arith) k.0.spans.stands.buffer.holds in
@@ -445,11 +553,11 @@ module _ (pattern : Option (List ℕ)) (replacement : Option (List Part)) (choic
             tells-follow (Left true) (Follows false e) (IsRewritten x q) (rule false) (done false)
             (substitute-follows false pattern replacement choice form s e begun u q x k whole)
             (substitute-rewrites pattern replacement choice form x q k.0.from one k.0.spans.first_in whole) (line-read known_one follows)
-        | false ↦ λ _. tells-any (Left false) (rule false) (done false) (λ r o. nothing-read r.marks o.state)
+        | false ↦ λ _. range-told follows false
       ]) refl
 
   substitute-told : (listed : Bool) → u.follows ≡ true → Tells (LeavesLine listed) (rule listed) (done listed)
-  substitute-told true follows = tells-any (LeavesLine true) (rule true) (done true) (λ r o. nothing-read r.marks o.state)
+  substitute-told true follows = range-told follows true
   substitute-told false follows = line-told follows
 
 -- COMMANDS ON FILES
@@ -510,6 +618,20 @@ quit-stays q =
       | false ↦ (refl, refl)
     ]
 
+-- GLOBAL COMMANDS
+
+flags-stay : (which : Sense) (pattern : Option (List ℕ)) (x : Span) (q : editor.State) → InOrder x →
+    OnMade (StaysAt q) (flagged which pattern x q >> λ t. Ok (Makes (effects.only t [])))
+flags-stay which pattern x q order =
+    OnMade-bind (λ (t : editor.State). Alike q.lines t.lines × (t.current ≡ q.current)) (StaysAt q) (flagged which pattern x q) _
+    (IfOk-bind (λ (_ : List ℕ). Unit {0}) (λ (t : editor.State). Alike q.lines t.lines × (t.current ≡ q.current)) (used_pattern pattern q) _
+    (always (used_pattern pattern q)) (λ text _. (alike-taken which text x.first x.last q.lines order, refl)))
+    (λ t k. k)
+
+used-marks : (pattern : Option (List ℕ)) (u : State) → IfOk (pattern_used pattern u) (SameMarks u)
+used-marks pattern u =
+    IfOk-bind (λ (_ : List Choice). Unit {0}) (SameMarks u) (possible_patterns pattern u) _ (always (possible_patterns pattern u)) (λ possible _. refl)
+
 -- THE PHASES
 
 ranged-known : (t : State) (q : editor.State) → KnownAt t q → IfOk (ranged t) (λ (u : State). KnownAt u q)
@@ -521,7 +643,7 @@ whole-known (One a) t q k = ranged-known t q k
 whole-known (Comma a b) t q k = ranged-known t q k
 whole-known (Semicolon a b) t q k = ranged-known t q k
 
-module _ (watched : List (List ℕ)) (c : Command) (heard : Option Answer) (given d : Addresses) (s : State) (e : editor.State)
+module _ (order : SpansAreInOrder) (watched : List (List ℕ)) (c : Command) (heard : Option Answer) (given d : Addresses) (s : State) (e : editor.State)
     (begun : Begins s e) (whole : AreWhole e.lines) (marked_well : WellMarked e.lines) (t : State) (p : editor.State × List ℕ)
     (same_lines : p.0.lines ≡ e.lines) (h : Addressed (NamesOf (given_or given d)) t p) where
   abbrev facts_of : Verb → State → State → Facts
@@ -613,7 +735,8 @@ module _ (watched : List (List ℕ)) (c : Command) (heard : Option Answer) (give
       (making (substitute c.listed pattern replacement choice form x p.0))
   substituted-told pattern replacement choice form u x k =
       tells-followed u (ed.Substitute pattern replacement choice form) _ _
-      (substitute-told pattern replacement choice form s e begun u p.0 x k (subst (λ (ls : List Line). AreWhole ls) (sym same_lines) whole) c.listed)
+      (substitute-told pattern replacement choice form s e begun u p.0 x k (subst (λ (ls : List Line). AreWhole ls) (sym same_lines) whole)
+      (subst (λ (ls : List Line). WellMarked ls) (sym same_lines) marked_well) c.listed)
 
   append-told : (text : List (List ℕ)) → IsGiven d → Tells FactsRead (rule_after (ed.Append text)) (command_after (ed.Append text))
   append-told [] g =
@@ -658,7 +781,7 @@ module _ (watched : List (List ℕ)) (c : Command) (heard : Option Answer) (give
 
   -- the lines of a range beside a target
   abbrev TargetKnown : editor.State × ℕ → State → Span → Type 0
-  TargetKnown q u x = RangeAlso (λ (u : State) (v : Numbers). FollowedHold u v q.0.lines × (v 5 ≡ pos q.1)) q.0 u x
+  TargetKnown q u x = RangeAlso (TargetFollowed q) q.0 u x
 
   target-told : (to : Address) (verb : Verb) → IsGiven d →
       ((q : editor.State × ℕ) (u : State) (x : Span) → TargetKnown q u x → q.1 ≤ length q.0.lines → WellMarked q.0.lines →
@@ -671,7 +794,7 @@ module _ (watched : List (List ℕ)) (c : Command) (heard : Option Answer) (give
       (targeted-sound to t p.0 p.1 h.numbers h.stands n h.matched h.followed)
       (λ m q at.
       tells-by FactsRead (TargetKnown q) (ranged m) (spanned many.Range (length e.lines) p.1) _ _
-      (range-also (λ (u : State) (v : Numbers). FollowedHold u v q.0.lines × (v 5 ≡ pos q.1)) m q.0 p.1 at.numbers (length e.lines) at.stands at.names (at.followed, at.target_is))
+      (range-also (TargetFollowed q) m q.0 p.1 at.numbers (length e.lines) at.stands at.names (at.followed, at.target_is))
       (λ u x r. acted verb u x q.1 q.0
       (told q u x r at.target_in (subst (λ (ls : List Line). WellMarked ls) (sym (at.same_lines ∙ same_lines)) marked_well))))
 
@@ -767,7 +890,10 @@ module _ (watched : List (List ℕ)) (c : Command) (heard : Option Answer) (give
   after_addresses (ed.EditAnyway path) g = none-told (ed.EditAnyway path) (λ u r. refl)
   after_addresses (ed.FileName path) g =
       kept-told (ed.FileName path) t (span 0 0) 0 p.0 at-start (λ r. refl) (file-marks path t) (name-stays path p.0)
-  after_addresses (ed.Global sense pattern) g = none-told (ed.Global sense pattern) (λ u r. refl)
+  after_addresses (ed.Global which pattern) g =
+      tells-bind FactsRead (λ (u : State). KnownAt u p.0) InOrder (whole_or_ranged given t) (spanned many.Whole (length e.lines) p.1) _ _
+      (whole-known given t p.0 at-start) (order many.Whole (length e.lines) p.1)
+      (λ u x k o. kept-told (ed.Global which pattern) u x 0 p.0 k (λ r. refl) (used-marks pattern u) (flags-stay which pattern x p.0 o))
   after_addresses ed.Undo g =
       acted ed.Undo t (span 0 0) 0 p.0
       (tells-agreed (Leaves watched c.listed given ed.Undo t) (IsUndone c.listed e t.follows) (undone t) (making (effects.undo p.0.past p.0)) (undo-known c.listed e t p.0 at-start)
@@ -777,23 +903,23 @@ module _ (watched : List (List ℕ)) (c : Command) (heard : Option Answer) (give
       kept-told ed.Quit t (span 0 0) 0 p.0 at-start (λ r. refl) (needed (SameMarks t) (not t.changed.yes) fault.Unsaved t refl) (quit-stays p.0)
   after_addresses ed.QuitAnyway g = kept-told ed.QuitAnyway t (span 0 0) 0 p.0 at-start (λ r. refl) refl (refl, refl)
 
-step_at-facts : (watched : List (List ℕ)) (c : Command) (s : State) (e : editor.State) (given : Option Answer) → StandsFor s e →
+step_at-facts : SpansAreInOrder → (watched : List (List ℕ)) (c : Command) (s : State) (e : editor.State) (given : Option Answer) → StandsFor s e →
     Tells FactsRead (step_at watched (given_or c.addresses (standing (takes c.verb).default)) c s) (command e c given)
-step_at-facts watched c s e given st =
+step_at-facts order watched c s e given st =
     let d : Addresses = standing (takes c.verb).default in
     let a : Addresses = given_or c.addresses d in
     subst (λ (y : Result Effect Fault). Tells FactsRead (step_at watched a c s) y) (sym (command-is c e given))
     (tells-by FactsRead (AddressedIn e.lines (NamesOf a)) (addressed a s) (values (given_or c.addresses (takes c.verb).default) e) _ _
     (command_addressed c.addresses c.verb s e (st.numbers, st.stands, st.facts) st.matches.0)
-    (λ t p h. after_addresses watched c given c.addresses d s e (st.numbers, st.stands, st.facts) st.lines.whole (lettered-marked e.lines st.lines) t p h.1 h.0 c.verb (suits c.verb)))
+    (λ t p h. after_addresses order watched c given c.addresses d s e (st.numbers, st.stands, st.facts) st.lines.whole (lettered-marked e.lines st.lines) t p h.1 h.0 c.verb (suits c.verb)))
 
 needed-facts : (b : Bool) (s : State) (k : State → Result State Fault) (y : Result Effect Fault) → Tells FactsRead (k s) y → Tells FactsRead (needing b fault.Syntax s >> k) y
 needed-facts true s k y h = h
 needed-facts false s k y h = tt
 
-pub step-facts : (watched : List (List ℕ)) (c : Command) (s t : State) (e : editor.State) (given : Option Answer) → StandsFor s e → step watched c s ≡ Ok t →
+pub step-facts : SpansAreInOrder → (watched : List (List ℕ)) (c : Command) (s t : State) (e : editor.State) (given : Option Answer) → StandsFor s e → step watched c s ≡ Ok t →
     Tells FactsRead (Ok t) (command e c given)
-step-facts watched c s t e given st is =
+step-facts order watched c s t e given st is =
     subst (λ (x : Result State Fault). Tells FactsRead x (command e c given)) is
     (needed-facts (enters_lines c.verb) s (step_at watched (given_or c.addresses (standing (takes c.verb).default)) c) (command e c given)
-    (step_at-facts watched c s e given st))
+    (step_at-facts order watched c s e given st))

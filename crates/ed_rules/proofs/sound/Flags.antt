@@ -39,6 +39,9 @@ pub texts-unflagged : (ls : List Line) → texts (unflagged ls) ≡ texts ls
 texts-unflagged [] = refl
 texts-unflagged (l ∷ ls) = ap (λ (ts : List (List ℕ)). l.bytes ∷ ts) (texts-unflagged ls)
 
+pub texts-alike : (ls ms : List Line) → Alike ls ms → texts ls ≡ texts ms
+texts-alike ls ms h = sym (texts-unflagged ls) ∙ ap texts h ∙ texts-unflagged ms
+
 unflagged-twice : (ls : List Line) → Alike (unflagged ls) ls
 unflagged-twice [] = refl
 unflagged-twice (l ∷ ls) = ap (λ (ms : List Line). with_flag false l ∷ ms) (unflagged-twice ls)

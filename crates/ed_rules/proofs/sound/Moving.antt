@@ -79,7 +79,7 @@ length-carried ls a b place ab inside at =
     omega (arith, length-append (take place rest) (drop a (take b ls) ++ drop place rest), length-append (drop a (take b ls)) (drop place rest), length-drop place rest)
 
 -- a letter that marks one line at most marks the line where it is found
-line_with-has : (x : ℕ) (ls : List Line) (i : ℕ) → line_with x ls ≡ Some i → has_letter x (get_or ls (i - 1) (plain_line [])) ≡ true
+pub line_with-has : (x : ℕ) (ls : List Line) (i : ℕ) → line_with x ls ≡ Some i → has_letter x (get_or ls (i - 1) (plain_line [])) ≡ true
 line_with-has x [] i e = cc
 line_with-has x (l ∷ ls) i e =
     (elim (has_letter x l) as (λ b. has_letter x l ≡ b → cond b (Some 1) (one_more (line_with x ls)) ≡ Some i → has_letter x (get_or (l ∷ ls) (i - 1) (plain_line [])) ≡ true) [

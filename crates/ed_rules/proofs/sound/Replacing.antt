@@ -4,6 +4,7 @@ use Rattle.std.proofs.lemmas.Int.{ints}
 use Rattle.std.proofs.lemmas.Bool.{cases_eq}
 use Rattle.ed_base.specs.Buffer.{Line}
 use Rattle.zones.specs.Name.{mark}
+use Rattle.std.specs.Prelude.{◌⊎◌}
 use Rattle.zones.specs.Bound.{Obeys, negative_of}
 use Rattle.zones.specs.Zone.{Bounds, Numbers, Holds, bound, updated}
 use Rattle.zones.specs.Steps.{after_shift, after_set, after_guard, after_forget}
@@ -15,9 +16,11 @@ use Rattle.ed_rules.specs.StandsFor.{HoldsBy}
 use Rattle.ed_rules.proofs.sound.LettersInLines.{set-off, line_with, line_with-replaced_before, line_with-replaced_after, length-replaced}
 use Rattle.ed_rules.proofs.sound.Finishing.{for_each_sure-by}
 use Rattle.ed_rules.proofs.sound.Inserting.{OnLine, OnLine-reads, reads-OnLine}
-use Rattle.ed_rules.proofs.sound.Spans.{Ranges}
+use Rattle.ed_rules.proofs.sound.Following.{FollowedHold}
+use Rattle.ed_rules.proofs.sound.ToldApart.{apart-sides}
+use Rattle.ed_rules.proofs.sound.Spans.{Ranges, InRange}
 use Rattle.zones.specs.Known.{known}
-use Rattle.ed_rules.specs.Pieces.{guarded_by, mark_moved, mark_lost, mark_replaced, left_over, current_left, current_replaced, replaced}
+use Rattle.ed_rules.specs.Pieces.{with_zone, guarded_by, is_told_apart, moved_beside, mark_moved, mark_lost, mark_replaced, left_over, current_left, current_replaced, replaced}
 use Rattle.ed_rules.specs.Marks.{for_each_sure}
 use Rattle.zones.proofs.Known.{updated-same, updated-other, known-true, Obeys-twice_negative}
 use Rattle.ed_rules.proofs.Basics.{Obeys-lowered}
@@ -60,7 +63,21 @@ Passed-lost k t h m =
     (λ y g. get_or-set_other t.marks k y false false g) (ap (λ (q : State). record q { zone = (mark_lost k t).zone; marks = (mark_lost k t).marks }) m.aside)
     (λ g. let f : false ≡ true = sym off ∙ g in absurd cc)
 
+-- a letter's line comes to another number
+pub Passed-shifted : {s : State} {lines : List Line} {v : Numbers} (k : ℕ) (t : State) (m : Passed s lines v k t) → (low high : Option ℤ) → (from to : ℕ) → k < 26 →
+    m.numbers (6 + k) ≡ pos from → Obeys (pos to -ℤ pos from) high → Obeys (pos from -ℤ pos to) (negative_of low) → line_with k lines ≡ Some to →
+    Passed s lines v (suc k) (with_zone (after_shift t.zone (mark k) low high) t)
+Passed-shifted k t m low high from to h at up down there =
+    let w : Numbers = m.numbers in
+    let w' : Numbers = updated w (6 + k) (pos to) in
+    let q : w' (6 + k) ≡ pos to = updated-same w (6 + k) (pos to) in
+    let u : State = with_zone (after_shift t.zone (mark k) low high) t in
+    Passed-more k t u m w'
+    (Holds-after_shift t.zone (6 + k) low high w w' (omega arith) m.holds (updated-other w (6 + k) (pos to)) (rw (q, at) up) (rw (q, at) down))
+    (updated-other w (6 + k) (pos to)) (λ y g. refl) (ap (λ (q : State). record q { zone = u.zone }) m.aside) (λ _. (to, there, q))
+
 module _ (a b : ℕ) (ls new : List Line) (s : State) (v : Numbers) (ha : 1 ≤ a) (hab : a ≤ b) (va : v 3 ≡ pos a) (vb : v 4 ≡ pos b)
+    (inside : b ≤ length ls) (holds : Holds s.zone v) (followed : FollowedHold s v ls)
     (on : (x : ℕ) → x < 26 → get_or s.marks x false ≡ true → OnLine x ls v) (none : (x : ℕ) → line_with x new ≡ None) where
   Passed-moved : (k : ℕ) (t : State) → k < 26 → (m : Passed s (parts.replaced a b new ls) v k t) → (o : OnLine k ls v) → known t.zone 4 (mark k) (negsuc 0) ≡ true →
       Passed s (parts.replaced a b new ls) v (suc k) (mark_moved (length new) k t)
@@ -85,8 +102,31 @@ module _ (a b : ℕ) (ls new : List Line) (s : State) (v : Numbers) (ha : 1 ≤ 
       (updated-other w (6 + k) (pos to)) (λ y g. refl) (ap (λ (q : State). record q { zone = (mark_moved (length new) k t).zone }) m.aside)
       (λ _. (to, line_with-replaced_after k ls new a b o.0 o.1 (none k) ha hab after, q))
 
+  -- the letter's line is on one side or the other of one line
+  beside-at : (k : ℕ) (t : State) → k < 26 → Passed s (parts.replaced a b new ls) v k t → (o : OnLine k ls v) → (to n : ℕ) → line_with k (parts.replaced a b new ls) ≡ Some to →
+      (to ≡ o.0) ⊎ (to + 1 ≡ o.0 + n) → Passed s (parts.replaced a b new ls) v (suc k) (with_zone (moved_beside n (mark k) t.zone) t)
+  unfolding moved_beside
+  beside-at k t h m o to zero there way =
+      let d : (to ≤ o.0) × (o.0 ≤ to + 1) = elim way [ inl e ↦ (omega arith, omega arith) | inr e ↦ (omega arith, omega arith) ] in
+      Passed-shifted k t m (Some (negsuc 0)) (Some (pos 0)) o.0 to h (m.rest (6 + k) (omega arith) ∙ o.2) (omega (arith, ints)) (omega (arith, ints)) there
+  beside-at k t h m o to (suc n) there way =
+      let d : (to ≤ o.0 + n) × (o.0 ≤ to) = elim way [ inl e ↦ (omega arith, omega arith) | inr e ↦ (omega arith, omega arith) ] in
+      Passed-shifted k t m (Some (pos 0)) (Some (pos n)) o.0 to h (m.rest (6 + k) (omega arith) ∙ o.2) (omega (arith, ints)) (omega (arith, ints)) there
+
+  Passed-beside : (k : ℕ) (t : State) → k < 26 → (m : Passed s (parts.replaced a b new ls) v k t) → (o : OnLine k ls v) → is_told_apart s.zone k t ≡ true →
+      Passed s (parts.replaced a b new ls) v (suc k) (with_zone (moved_beside (length new) (mark k) t.zone) t)
+  Passed-beside k t h m o e =
+      let q = apart-sides s k a b ls v h (ap (is_told_apart s.zone k) (sym m.aside) ∙ e) holds followed va vb ha hab inside o in
+      let one = q.0 in
+      elim q.1 [
+        | inl before ↦ beside-at k t h m o o.0 (length new) (line_with-replaced_before k ls new a b o.0 o.1 before) (inl refl)
+        | inr after ↦
+            beside-at k t h m o (o.0 + length new - (b + 1 - a)) (length new) (line_with-replaced_after k ls new a b o.0 o.1 (none k) ha hab after)
+            (inr (omega arith))
+      ]
+
   Passed-step : (k : ℕ) (t : State) → k < 26 → get_or s.marks k false ≡ true → Passed s (parts.replaced a b new ls) v k t →
-      Passed s (parts.replaced a b new ls) v (suc k) (mark_replaced (length new) k t)
+      Passed s (parts.replaced a b new ls) v (suc k) (mark_replaced s.zone (length new) k t)
   unfolding mark_replaced mark_lost
   Passed-step k t h e m =
       let o = on k h e in
@@ -94,21 +134,27 @@ module _ (a b : ℕ) (ls new : List Line) (s : State) (v : Numbers) (ha : 1 ≤ 
       let m3 : w 3 ≡ pos a = m.low 3 (omega arith) ∙ va in
       let mk : w (6 + k) ≡ pos o.0 = m.rest (6 + k) (omega arith) ∙ o.2 in
       let G : State → Type 0 = Passed s (parts.replaced a b new ls) v (suc k) in
-      (elim (known t.zone (mark k) 3 (negsuc 0)) as (λ r. known t.zone (mark k) 3 (negsuc 0) ≡ r → G (cond r t (cond (known t.zone 4 (mark k) (negsuc 0)) (mark_moved (length new) k t) (mark_lost k t)))) [
+      let beside : State = with_zone (moved_beside (length new) (mark k) t.zone) t in
+      let rest : State = cond (is_told_apart s.zone k t) beside (mark_lost k t) in
+      (elim (known t.zone (mark k) 3 (negsuc 0)) as (λ r. known t.zone (mark k) 3 (negsuc 0) ≡ r → G (cond r t (cond (known t.zone 4 (mark k) (negsuc 0)) (mark_moved (length new) k t) rest))) [
         | true ↦ λ q.
             let d = known-true t.zone w (6 + k) 3 (negsuc 0) q (omega arith) (omega arith) m.holds in
             let before : o.0 < a = omega (arith, ints) in
             Passed-more k t t m w m.holds (λ p g. refl) (λ y g. refl) m.aside (λ _. (o.0, line_with-replaced_before k ls new a b o.0 o.1 before, mk))
         | false ↦ λ _.
-            (elim (known t.zone 4 (mark k) (negsuc 0)) as (λ r. known t.zone 4 (mark k) (negsuc 0) ≡ r → G (cond r (mark_moved (length new) k t) (mark_lost k t))) [
+            (elim (known t.zone 4 (mark k) (negsuc 0)) as (λ r. known t.zone 4 (mark k) (negsuc 0) ≡ r → G (cond r (mark_moved (length new) k t) rest)) [
               | true ↦ λ q. Passed-moved k t h m o q
-              | false ↦ λ _. Passed-lost k t h m
+              | false ↦ λ _.
+                  (elim (is_told_apart s.zone k t) as (λ r. is_told_apart s.zone k t ≡ r → G (cond r beside (mark_lost k t))) [
+                    | true ↦ λ q. Passed-beside k t h m o q
+                    | false ↦ λ _. Passed-lost k t h m
+                  ]) refl
             ]) refl
       ]) refl
 
-  pub Passed-all : Holds s.zone v → Passed s (parts.replaced a b new ls) v 26 (for_each_sure (mark_replaced (length new)) s.marks 26 s)
-  Passed-all holds =
-      for_each_sure-by (Passed s (parts.replaced a b new ls) v) (mark_replaced (length new)) s.marks s
+  pub Passed-all : Passed s (parts.replaced a b new ls) v 26 (for_each_sure (mark_replaced s.zone (length new)) s.marks 26 s)
+  Passed-all =
+      for_each_sure-by (Passed s (parts.replaced a b new ls) v) (mark_replaced s.zone (length new)) s.marks s
       (record { numbers = v; holds = holds; low = λ p h. refl; on_line = λ x h e. absurd (omega arith); rest = λ p h. refl; same_letters = λ y h. refl; aside = refl })
       (λ k t h e m. Passed-step k t h e m)
       (λ k t h e m. Passed-more k t t m m.numbers m.holds (λ p g. refl) (λ y g. refl) m.aside
@@ -188,11 +234,12 @@ pub record Replaced (s t : State) (lines : List Line) (current : ℕ) : Type 0 w
   pub aside : t ≡ record s { zone = t.zone; marks = t.marks }
   pub buffer : HoldsBy t.zone t.marks lines current numbers
 
-pub HoldsBy-replaced : (s : State) (e : editor.State) (x : Span) (new : List Line) → Ranges s e x → ((y : ℕ) → line_with y new ≡ None) → (current : ℕ) →
+pub HoldsBy-replaced : (s : State) (e : editor.State) (x : Span) (new : List Line) → InRange e s x → ((y : ℕ) → line_with y new ≡ None) → (current : ℕ) →
     current ≡ current_after (length new) x.first (length e.lines + x.first - (x.last + 1)) →
     Replaced s (replaced (length new) s) (parts.replaced x.first x.last new e.lines) current
 unfolding replaced
-HoldsBy-replaced s e x new r none current is =
+HoldsBy-replaced s e x new k none current is =
+    let r : Ranges s e x = k.0 in
     let first : ℕ = x.first in
     let last : ℕ = x.last in
     let v₀ : Numbers = r.spans.numbers in
@@ -204,8 +251,10 @@ HoldsBy-replaced s e x new r none current is =
     let n : ℕ = length new in
     let lines : List Line = parts.replaced first last new e.lines in
     let size : length lines ≡ left + n = length-replaced e.lines new first last hf hfl hlc ∙ (omega arith) in
-    let m = Passed-all first last e.lines new s v₀ hf hfl r.spans.first_is r.spans.last_is (λ y h q. OnLine-reads y e.lines v₀ (b₀.reads.marks_are y h q)) none b₀.holds in
-    let t : State = for_each_sure (mark_replaced n) s.marks 26 s in
+    let m =
+    Passed-all first last e.lines new s v₀ hf hfl r.spans.first_is r.spans.last_is hlc b₀.holds k.1
+    (λ y h q. OnLine-reads y e.lines v₀ (b₀.reads.marks_are y h q)) none in
+    let t : State = for_each_sure (mark_replaced s.zone n) s.marks 26 s in
     let v : Numbers = m.numbers in
     let v5 : Numbers = updated v 5 (pos left) in
     let v1 : Numbers = updated v5 1 (pos current) in

@@ -1,7 +1,5 @@
 -- Soundness of one command.
 use Rattle.std.proofs.Common.{◌≡◌, ℕ, Bool, true, false, List, Option, None, Some, Result, Ok, Err, IfErr, refl, sym, subst}
-use Rattle.ed_base.specs.Buffer.{Line}
-use Rattle.zones.specs.Zone.{Numbers}
 use Rattle.ed_base.specs.declared.fault.Fault.{Fault}
 use Rattle.ed_base.specs.declared.fault.Fault.TheVariants as fault
 use Rattle.ed_syntax.specs.declared.request.Answer.{Answer}
@@ -99,7 +97,7 @@ pub command_sound : Laws → CommandIsSound
 command_sound k watched c s t e given st is =
     done-by k watched c s t e st is given (command e c given) refl (does k watched c s t e st is given)
     (λ o makes. command-lettered k.marks k.lines c e given o makes (entered watched c s t is) st.lines st.kept)
-    (step-told watched c s t e given st is) (step-facts watched c s t e given st is)
+    (step-told watched c s t e given st is) (step-facts k.order watched c s t e given st is)
 
 -- where the needs hold, the command meets no fault but that of a file
 fault-unserved : (c : Command) (s t : State) (e : editor.State) (given : Option Answer) (y : Result Effect Fault) → IsDone c s t e given y → IfErr y (IsUnserved c e given)

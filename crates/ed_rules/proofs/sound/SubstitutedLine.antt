@@ -1,5 +1,5 @@
--- What `s` outside of lists does to one line: it gives way to the lines that come of it.
-use Rattle.std.proofs.Common.{◌≡◌, ◌≤◌, ℕ, ◌+◌, ◌-◌, Bool, true, false, List, [], ◌∷◌, ◌++◌, map, take, drop, length, Option, None, Some, Result, Ok, Err, IfOk, refl, sym, ap, subst, ◌∙◌, arith, All}
+-- What `s` does to lines: one, outside of lists, gives way to the lines that come of it, and a range to what comes of each of its lines.
+use Rattle.std.proofs.Common.{◌≡◌, ◌≤◌, ℕ, ◌+◌, ◌-◌, Bool, true, false, List, [], ◌∷◌, ◌++◌, map, take, length, Option, None, Some, Result, Ok, Err, IfOk, refl, sym, ap, subst, ◌∙◌, arith, All}
 use Rattle.std.specs.Prelude.{slice_index_or}
 use Rattle.std.specs.List.{list_any}
 use Rattle.std.proofs.lemmas.List.{append-nil, length-map}
@@ -15,7 +15,7 @@ use Rattle.ed_syntax.specs.meaning.States as editor
 use Rattle.ed_syntax.specs.meaning.Ranges.{Span}
 use Rattle.ed_syntax.specs.meaning.Values.{used_pattern}
 use Rattle.ed_syntax.specs.meaning.CommandLaws.{AreWhole}
-use Rattle.ed_syntax.specs.meaning.Effects.{Outcome, Effect, Makes}
+use Rattle.ed_syntax.specs.meaning.Effects.{Outcome}
 use Rattle.ed_syntax.specs.meaning.Applied.{making}
 use Rattle.ed_syntax.specs.meaning.SubstitutedLines.{made_of, Results, onto, each, used_replacement, made, substitute}
 use Rattle.ed_syntax.proofs.meaning.ResultLemmas.{IfOk-bind}
@@ -24,6 +24,8 @@ use Rattle.ed_rules.proofs.sound.LettersInLines.{line_with, line_with-plain}
 use Rattle.ed_rules.proofs.sound.Outcomes.{always, OnMade}
 use Rattle.ed_rules.proofs.sound.Results.{made-one}
 use Rattle.ed_rules.proofs.sound.SubstitutionEffects.{one-between}
+use Rattle.ed_rules.proofs.facts.FactsSpared.{none-made, replaced-same}
+use Rattle.std.proofs.lemmas.Result.{IfOk-weaker}
 
 -- the line of the span gave way to new ones, the last of them current; where the replacement has no split, to one
 pub record IsRewritten (x : Span) (e : editor.State) (o : Outcome) : Type 0 where
@@ -79,3 +81,44 @@ substitute-rewrites pattern replacement choice form x e from one inside whole =
     (IfOk-bind (λ (_ : List Part). Unit {0}) (IsRewritten x e) (used_replacement false replacement e) _ (always (used_replacement false replacement e))
     (λ parts _. IfOk-bind (λ (_ : List ℕ). Unit {0}) (IsRewritten x e) (used_pattern pattern e) _ (always (used_pattern pattern e))
     (λ text _. range-rewritten text parts choice form x e from one inside whole)))
+
+-- A RANGE
+
+-- what comes of each line of the span is in its place, by what is remembered then
+pub record IsPut (choice : Which) (x : Span) (e : editor.State) (o : Outcome) : Type 0 where
+  pub text : List ℕ
+  pub parts : List Part
+  pub looked_for : o.state.pattern ≡ Some text
+  pub remembered : o.state.replacement ≡ Some parts
+  pub lines : o.state.lines ≡ replaced x.first x.last (each (made_of text parts choice) (between x.first x.last e.lines)).0 e.lines
+
+module _ (text : List ℕ) (parts : List Part) (form : Option Form) (x : Span) (e : editor.State) where
+  abbrev used : editor.State
+  used = record e { pattern = Some text; replacement = Some parts }
+
+  abbrev IsOf : Results → Outcome → Type 0
+  IsOf results o = (o.state.pattern ≡ Some text) × (o.state.replacement ≡ Some parts) × (o.state.lines ≡ replaced x.first x.last results.0 e.lines)
+
+  range-made : (listed : Bool) (made_lines : Results) → (made_lines.1 ≡ None → replaced x.first x.last made_lines.0 e.lines ≡ e.lines) →
+      IfOk (made listed form x used made_lines) (IsOf made_lines)
+  range-made true (ls, None) same = (refl, refl, sym (same refl))
+  range-made false (ls, None) same = tt
+  range-made listed (ls, Some n) same = (refl, refl, refl)
+
+  range-put : (choice : Which) (listed : Bool) → x.first ≤ x.last → IfOk (made listed form x used (each (made_of text parts choice) (between x.first x.last e.lines))) (IsPut choice x e)
+  range-put choice listed order =
+      let results : Results = each (made_of text parts choice) (between x.first x.last e.lines) in
+      let same : results.1 ≡ None → replaced x.first x.last results.0 e.lines ≡ e.lines = λ (none : results.1 ≡ None).
+      ap (λ (ls : List Line). replaced x.first x.last ls e.lines) (none-made (made_of text parts choice) (between x.first x.last e.lines) none)
+      ∙ replaced-same x.first x.last e.lines order in
+      IfOk-weaker (made listed form x used results) (IsOf results) (IsPut choice x e)
+      (λ o h. record { text = text; parts = parts; looked_for = h.0; remembered = h.1; lines = h.2 }) (range-made listed results same)
+
+-- `s`
+pub substitute-puts : (listed : Bool) (pattern : Option (List ℕ)) (replacement : Option (List Part)) (choice : Which) (form : Option Form) (x : Span) (e : editor.State) →
+    x.first ≤ x.last → OnMade (IsPut choice x e) (making (substitute listed pattern replacement choice form x e))
+substitute-puts listed pattern replacement choice form x e order =
+    making-made (IsPut choice x e) (substitute listed pattern replacement choice form x e)
+    (IfOk-bind (λ (_ : List Part). Unit {0}) (IsPut choice x e) (used_replacement listed replacement e) _ (always (used_replacement listed replacement e))
+    (λ parts _. IfOk-bind (λ (_ : List ℕ). Unit {0}) (IsPut choice x e) (used_pattern pattern e) _ (always (used_pattern pattern e))
+    (λ text _. range-put text parts form x e choice listed order)))

@@ -1,5 +1,5 @@
 -- The rule of a substitution: the marks and the current line that it leaves.
-use Rattle.std.proofs.Common.{◌≡◌, ◌<◌, ◌≤◌, inl, inr, ℕ, suc, ◌+◌, ◌-◌, ℤ, pos, negsuc, ◌-ℤ◌, Bool, true, false, cond, List, length, get_or, None, Some, arith, ◌∙◌, ap, refl, sym, subst}
+use Rattle.std.proofs.Common.{◌≡◌, ◌<◌, ◌≤◌, inl, inr, ℕ, suc, ◌+◌, ◌-◌, ℤ, pos, negsuc, ◌-ℤ◌, ◌&&◌, Bool, true, false, cond, List, length, get_or, None, Some, arith, ◌∙◌, ap, refl, sym, subst}
 use Rattle.std.proofs.lemmas.Int.{ints}
 use Rattle.std.proofs.lemmas.Bool.{cases_eq}
 use Rattle.ed_base.specs.Buffer.{Line}
@@ -14,25 +14,39 @@ use Rattle.zones.proofs.Known.{updated-same, updated-other, known-true}
 use Rattle.ed_syntax.specs.meaning.Ranges.{Span}
 use Rattle.ed_syntax.specs.meaning.States as editor
 use Rattle.ed_rules.specs.declared.state.State.{State}
-use Rattle.ed_rules.specs.Pieces.{with_zone, mark_lost}
-use Rattle.ed_rules.specs.Substituting.{mark_substituted, marks_substituted, current_split, current_within}
-use Rattle.ed_rules.proofs.sound.LettersInLines.{line_with, line_with-replaced_before, line_with-replaced_after, length-replaced}
+use Rattle.ed_rules.specs.Pieces.{with_zone, is_told_apart, mark_lost}
+use Rattle.ed_rules.specs.Choices.{has_choice}
+use Rattle.ed_syntax.specs.meaning.Values.{matches_line}
+use Rattle.ed_rules.specs.facts.Facts.{tells}
+use Rattle.std.specs.List.{list_all}
+use Rattle.std.proofs.lemmas.Bool.{cases_lt, and_parts, or_cases}
+use Rattle.ed_rules.proofs.Choosing.{has_choice-all}
+use Rattle.ed_rules.proofs.facts.FactsTold.{tells-true}
+use Rattle.ed_rules.specs.Substituting.{is_told_not_to_match, is_left_alone, mark_kept, mark_substituted, marks_substituted, current_split, current_within}
+use Rattle.ed_rules.proofs.sound.LettersInLines.{line_with, line_with-range, line_with-replaced_before, line_with-replaced_after, length-replaced}
 use Rattle.ed_rules.proofs.sound.Finishing.{for_each_sure-by}
 use Rattle.ed_rules.proofs.sound.Lifting.{Holds-same}
 use Rattle.ed_rules.proofs.sound.Inserting.{OnLine, OnLine-reads, reads-OnLine}
-use Rattle.ed_rules.proofs.sound.Replacing.{Passed, Passed-more, Passed-lost, Replaced, Holds-guarded_by}
+use Rattle.ed_rules.proofs.sound.Replacing.{Passed, Passed-more, Passed-lost, Passed-shifted, Replaced, Holds-guarded_by}
+use Rattle.ed_rules.proofs.sound.Following.{FollowedHold}
+use Rattle.ed_rules.proofs.sound.ToldApart.{apart-sides}
 use Rattle.ed_rules.proofs.sound.Spans.{Ranges}
 
 -- lines come in place of those from a to b: no fewer, and just as many where none is split; no mark of a later line is on them
-pub record Exchanges (splits : Bool) (a b : ℕ) (ls new : List Line) : Type 0 where
+pub record Exchanges (text : List ℕ) (splits : Bool) (a b : ℕ) (ls new : List Line) : Type 0 where
   pub least : b + 1 - a ≤ length new
   pub same : splits ≡ false → length new ≡ b + 1 - a
   pub none : (letter line : ℕ) → line_with letter ls ≡ Some line → b < line → line_with letter new ≡ None
+  -- one of those that the pattern doesn't match is as it was, as far down or further
+  pub spared : (letter line : ℕ) → line_with letter ls ≡ Some line → a ≤ line → line ≤ b → matches_line text ls line ≡ false →
+      (to : ℕ) × (line_with letter (parts.replaced a b new ls) ≡ Some to) × (line ≤ to) × (splits ≡ false → to ≡ line)
 
 -- the marks
 
-module _ (splits : Bool) (a b : ℕ) (ls new : List Line) (s : State) (v : Numbers) (ha : 1 ≤ a) (hab : a ≤ b) (va : v 3 ≡ pos a) (vb : v 4 ≡ pos b)
-    (on : (x : ℕ) → x < 26 → get_or s.marks x false ≡ true → OnLine x ls v) (by : Exchanges splits a b ls new) where
+module _ (text : List ℕ) (splits : Bool) (a b : ℕ) (ls new : List Line) (s : State) (v : Numbers) (ha : 1 ≤ a) (hab : a ≤ b) (va : v 3 ≡ pos a) (vb : v 4 ≡ pos b)
+    (inside : b ≤ length ls) (holds : Holds s.zone v) (followed : FollowedHold s v ls)
+    (possible : has_choice s.patterns (Some text) ≡ true) (on : (x : ℕ) → x < 26 → get_or s.marks x false ≡ true → OnLine x ls v)
+    (by : Exchanges text splits a b ls new) where
   -- a mark after the lines, where there may be more of them
   done-down : (k : ℕ) (t : State) → k < 26 → (m : Passed s (parts.replaced a b new ls) v k t) → (o : OnLine k ls v) → b < o.0 →
       Passed s (parts.replaced a b new ls) v (suc k) (with_zone (after_shift t.zone (mark k) (Some (pos 0)) None) t)
@@ -59,38 +73,111 @@ module _ (splits : Bool) (a b : ℕ) (ls new : List Line) (s : State) (v : Numbe
       Passed-more k t t m w m.holds (λ p g. refl) (λ y g. refl) m.aside
       (λ _. (o.0, line_with-replaced_after k ls new a b o.0 o.1 (by.none k o.0 o.1 after) ha hab after ∙ ap Some (omega arith), mk))
 
+  done-after : (k : ℕ) (t : State) → k < 26 → (m : Passed s (parts.replaced a b new ls) v k t) → (o : OnLine k ls v) → b < o.0 →
+      Passed s (parts.replaced a b new ls) v (suc k) (mark_kept splits k t)
+  done-after k t h m o after =
+      let G : State → Type 0 = Passed s (parts.replaced a b new ls) v (suc k) in
+      (elim splits as (λ r. splits ≡ r → G (mark_kept r k t)) [
+        | true ↦ λ _. done-down k t h m o after
+        | false ↦ λ whole. done-still whole k t h m o after
+      ]) refl
+
+  -- a mark before the lines stays
+  done-before : (k : ℕ) (t : State) → k < 26 → (m : Passed s (parts.replaced a b new ls) v k t) → (o : OnLine k ls v) → o.0 < a →
+      Passed s (parts.replaced a b new ls) v (suc k) t
+  done-before k t h m o before =
+      Passed-more k t t m m.numbers m.holds (λ p g. refl) (λ y g. refl) m.aside
+      (λ _. (o.0, line_with-replaced_before k ls new a b o.0 o.1 before, m.rest (6 + k) (omega arith) ∙ o.2))
+
+  -- before them it may go down too
+  done-raised : (k : ℕ) (t : State) → k < 26 → (m : Passed s (parts.replaced a b new ls) v k t) → (o : OnLine k ls v) → o.0 < a →
+      Passed s (parts.replaced a b new ls) v (suc k) (mark_kept splits k t)
+  done-raised k t h m o before =
+      let G : State → Type 0 = Passed s (parts.replaced a b new ls) v (suc k) in
+      elim splits as (λ r. G (mark_kept r k t)) [
+        | true ↦
+            Passed-shifted k t m (Some (pos 0)) None o.0 o.0 h (m.rest (6 + k) (omega arith) ∙ o.2) tt (omega (arith, ints))
+            (line_with-replaced_before k ls new a b o.0 o.1 before)
+        | false ↦ done-before k t h m o before
+      ]
+
+  -- its line is told from the one that is addressed
+  done-beside : (k : ℕ) (t : State) → k < 26 → (m : Passed s (parts.replaced a b new ls) v k t) → (o : OnLine k ls v) → is_told_apart s.zone k s ≡ true →
+      Passed s (parts.replaced a b new ls) v (suc k) (mark_kept splits k t)
+  done-beside k t h m o e =
+      let q = apart-sides s k a b ls v h e holds followed va vb ha hab inside o in
+      elim q.1 [ inl before ↦ done-raised k t h m o before | inr after ↦ done-after k t h m o after ]
+
+  -- its line isn't matched
+  done-spared : (k : ℕ) (t : State) → k < 26 → (m : Passed s (parts.replaced a b new ls) v k t) → (o : OnLine k ls v) → a ≤ o.0 → o.0 ≤ b →
+      matches_line text ls o.0 ≡ false → Passed s (parts.replaced a b new ls) v (suc k) (mark_kept splits k t)
+  done-spared k t h m o low high unmatched =
+      let G : State → Type 0 = Passed s (parts.replaced a b new ls) v (suc k) in
+      let q = by.spared k o.0 o.1 low high unmatched in
+      let further = q.2 in
+      let at : m.numbers (6 + k) ≡ pos o.0 = m.rest (6 + k) (omega arith) ∙ o.2 in
+      (elim splits as (λ r. splits ≡ r → G (mark_kept r k t)) [
+        | true ↦ λ _. Passed-shifted k t m (Some (pos 0)) None o.0 q.0 h at tt (omega (arith, ints)) q.1
+        | false ↦ λ still.
+            Passed-more k t t m m.numbers m.holds (λ p g. refl) (λ y g. refl) m.aside (λ _. (o.0, q.1 ∙ ap Some (q.3 still), at))
+      ]) refl
+
+  done-unmatched : (k : ℕ) (t : State) → k < 26 → (m : Passed s (parts.replaced a b new ls) v k t) → (o : OnLine k ls v) →
+      s.follows && list_all (is_told_not_to_match s.zone s.facts k) s.patterns ≡ true → Passed s (parts.replaced a b new ls) v (suc k) (mark_kept splits k t)
+  done-unmatched k t h m o e =
+      let p = and_parts s.follows (list_all (is_told_not_to_match s.zone s.facts k) s.patterns) e in
+      let told : tells s.zone s.facts (mark k) text false ≡ true = has_choice-all (is_told_not_to_match s.zone s.facts k) s.patterns (Some text) p.1 possible in
+      let r = line_with-range k ls o.0 o.1 in
+      elim (cases_lt o.0 a) [
+        | inl before ↦ done-raised k t h m o before
+        | inr low ↦ elim (cases_lt b o.0) [
+          | inl after ↦ done-after k t h m o after
+          | inr high ↦
+              done-spared k t h m o low high
+              (tells-true s.zone s.facts v ls (6 + k) o.0 text false told (omega arith) holds (followed p.0) o.2 r.0 r.1)
+        ]
+      ]
+
+  done-alone : (k : ℕ) (t : State) → k < 26 → (m : Passed s (parts.replaced a b new ls) v k t) → (o : OnLine k ls v) → is_left_alone s.zone k t ≡ true →
+      Passed s (parts.replaced a b new ls) v (suc k) (mark_kept splits k t)
+  done-alone k t h m o e =
+      let own : is_left_alone s.zone k s ≡ true = ap (is_left_alone s.zone k) (sym m.aside) ∙ e in
+      elim (or_cases (is_told_apart s.zone k s) (s.follows && list_all (is_told_not_to_match s.zone s.facts k) s.patterns) own) [
+        | inl apart ↦ done-beside k t h m o apart
+        | inr unmatched ↦ done-unmatched k t h m o unmatched
+      ]
+
   done-step : (k : ℕ) (t : State) → k < 26 → get_or s.marks k false ≡ true → Passed s (parts.replaced a b new ls) v k t →
-      Passed s (parts.replaced a b new ls) v (suc k) (mark_substituted splits k t)
-  unfolding mark_substituted mark_lost
+      Passed s (parts.replaced a b new ls) v (suc k) (mark_substituted s.zone splits k t)
+  unfolding mark_substituted
   done-step k t h e m =
       let o = on k h e in
       let w : Numbers = m.numbers in
       let m3 : w 3 ≡ pos a = m.low 3 (omega arith) ∙ va in
       let m4 : w 4 ≡ pos b = m.low 4 (omega arith) ∙ vb in
       let mk : w (6 + k) ≡ pos o.0 = m.rest (6 + k) (omega arith) ∙ o.2 in
-      let down : State = with_zone (after_shift t.zone (mark k) (Some (pos 0)) None) t in
       let G : State → Type 0 = Passed s (parts.replaced a b new ls) v (suc k) in
-      (elim (known t.zone 4 (mark k) (negsuc 0)) as (λ r. known t.zone 4 (mark k) (negsuc 0) ≡ r → G (cond r (cond splits down t) (cond (known t.zone (mark k) 3 (negsuc 0)) t (mark_lost k t)))) [
+      let rest : State = cond (is_left_alone s.zone k t) (mark_kept splits k t) (mark_lost k t) in
+      (elim (known t.zone 4 (mark k) (negsuc 0)) as (λ r. known t.zone 4 (mark k) (negsuc 0) ≡ r → G (cond r (mark_kept splits k t) (cond (known t.zone (mark k) 3 (negsuc 0)) t rest))) [
         | true ↦ λ q.
             let d = known-true t.zone w 4 (6 + k) (negsuc 0) q (omega arith) (omega arith) m.holds in
-            let after : b < o.0 = omega (arith, ints) in
-            (elim splits as (λ r. splits ≡ r → G (cond r down t)) [
-              | true ↦ λ _. done-down k t h m o after
-              | false ↦ λ whole. done-still whole k t h m o after
-            ]) refl
+            done-after k t h m o (omega (arith, ints))
         | false ↦ λ _.
-            (elim (known t.zone (mark k) 3 (negsuc 0)) as (λ r. known t.zone (mark k) 3 (negsuc 0) ≡ r → G (cond r t (mark_lost k t))) [
+            (elim (known t.zone (mark k) 3 (negsuc 0)) as (λ r. known t.zone (mark k) 3 (negsuc 0) ≡ r → G (cond r t rest)) [
               | true ↦ λ q.
                   let d = known-true t.zone w (6 + k) 3 (negsuc 0) q (omega arith) (omega arith) m.holds in
-                  let before : o.0 < a = omega (arith, ints) in
-                  Passed-more k t t m w m.holds (λ p g. refl) (λ y g. refl) m.aside (λ _. (o.0, line_with-replaced_before k ls new a b o.0 o.1 before, mk))
-              | false ↦ λ _. Passed-lost k t h m
+                  done-before k t h m o (omega (arith, ints))
+              | false ↦ λ _.
+                  (elim (is_left_alone s.zone k t) as (λ r. is_left_alone s.zone k t ≡ r → G (cond r (mark_kept splits k t) (mark_lost k t))) [
+                    | true ↦ λ q. done-alone k t h m o q
+                    | false ↦ λ _. Passed-lost k t h m
+                  ]) refl
             ]) refl
       ]) refl
 
-  pub marks-done : Holds s.zone v → Passed s (parts.replaced a b new ls) v 26 (marks_substituted splits s)
-  marks-done holds =
-      for_each_sure-by (Passed s (parts.replaced a b new ls) v) (mark_substituted splits) s.marks s
+  pub marks-done : Passed s (parts.replaced a b new ls) v 26 (marks_substituted splits s)
+  marks-done =
+      for_each_sure-by (Passed s (parts.replaced a b new ls) v) (mark_substituted s.zone splits) s.marks s
       (record { numbers = v; holds = holds; low = λ p h. refl; on_line = λ x h e. absurd (omega arith); rest = λ p h. refl; same_letters = λ y h. refl; aside = refl })
       (λ k t h e m. done-step k t h e m)
       (λ k t h e m. Passed-more k t t m m.numbers m.holds (λ p g. refl) (λ y g. refl) m.aside
@@ -99,12 +186,13 @@ module _ (splits : Bool) (a b : ℕ) (ls new : List Line) (s : State) (v : Numbe
 
 -- the current line and the last one
 
-module _ (splits : Bool) (s : State) (e : editor.State) (x : Span) (r : Ranges s e x) (new : List Line) (by : Exchanges splits x.first x.last e.lines new) where
+module _ (text : List ℕ) (splits : Bool) (s : State) (e : editor.State) (x : Span) (r : Ranges s e x) (followed : FollowedHold s r.spans.numbers e.lines)
+    (possible : has_choice s.patterns (Some text) ≡ true) (new : List Line) (by : Exchanges text splits x.first x.last e.lines new) where
   pub passed : Passed s (parts.replaced x.first x.last new e.lines) r.spans.numbers 26 (marks_substituted splits s)
   passed =
       let b = r.spans.stands.buffer in
-      marks-done splits x.first x.last e.lines new s r.spans.numbers r.from r.order r.spans.first_is r.spans.last_is
-      (λ y h q. OnLine-reads y e.lines r.spans.numbers (b.reads.marks_are y h q)) by b.holds
+      marks-done text splits x.first x.last e.lines new s r.spans.numbers r.from r.order r.spans.first_is r.spans.last_is
+      r.spans.last_in b.holds followed possible (λ y h q. OnLine-reads y e.lines r.spans.numbers (b.reads.marks_are y h q)) by
 
   -- with a zone that holds of a current line and a last one
   HoldsBy-exchanged : (zone : Bounds) (current : ℕ) → current ≤ length (parts.replaced x.first x.last new e.lines) →

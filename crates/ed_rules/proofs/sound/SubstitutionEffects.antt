@@ -5,7 +5,7 @@ use Rattle.std.proofs.lemmas.Int.{ints}
 use Rattle.std.specs.List.{list_any, list_all}
 use Rattle.std.proofs.lemmas.List.{length-take-le, get_or-drop, get_or-take, take_all}
 use Rattle.std.proofs.lemmas.List.Folds.{list_any_at}
-use Rattle.std.proofs.lemmas.List.Elements.{All-nil, All-cons, All-take, All-drop}
+use Rattle.std.proofs.lemmas.List.Elements.{All-nil, All-cons, All-take, All-drop, All-weaker}
 use Rattle.std.proofs.lemmas.Bool.{or_cases, or_right, and_parts}
 use Rattle.ed_base.specs.declared.fault.Fault.{Fault}
 use Rattle.ed_base.specs.declared.fault.Fault.TheVariants as fault
@@ -56,6 +56,8 @@ use Rattle.ed_rules.proofs.sound.Weaker.{Stands-join, Stands-join_other}
 use Rattle.ed_rules.proofs.sound.Finishing.{Follows}
 use Rattle.ed_rules.proofs.sound.Effects.{altered-aside}
 use Rattle.ed_rules.proofs.sound.Results.{results-none, results-within, results-least, results-same, results-all, results-some, IsMade, made-each, made-some, made-one, always-makes, matching-makes}
+use Rattle.ed_rules.proofs.facts.SubstitutedFacts.{made-unmatched}
+use Rattle.ed_rules.proofs.sound.SparedLines.{MakesOne, results-spared, line_with-between, at-between, line_with-replaced_within}
 use Rattle.ed_rules.proofs.sound.Substituting.{Exchanges, exchanged-last, exchanged-within, exchanged-split}
 
 -- the replacement
@@ -138,8 +140,8 @@ none-dropped letter (l ∷ ls) (suc k) h = none-dropped letter ls k (none-rest l
 -- what comes of the lines
 
 -- which lines come of those that are addressed, with the pattern and the replacement
-module _ (text : List ℕ) (replacement : List Part) (choice : Which) (s : State) (e : editor.State) (x : Span) (r : Ranges s e x) (whole : AreWhole e.lines)
-    (kind : allows_replacement s.replacements (Some replacement) ≡ true) where
+module _ (text : List ℕ) (replacement : List Part) (choice : Which) (s : State) (e : editor.State) (x : Span) (r : Ranges s e x) (followed : FollowedHold s r.spans.numbers e.lines)
+    (possible : has_choice s.patterns (Some text) ≡ true) (whole : AreWhole e.lines) (kind : allows_replacement s.replacements (Some replacement) ≡ true) where
   abbrev block : List Line
   block = parts.between x.first x.last e.lines
 
@@ -149,7 +151,15 @@ module _ (text : List ℕ) (replacement : List Part) (choice : Which) (s : State
   block-size : length block ≡ x.last + 1 - x.first
   block-size = length-drop (x.first - 1) (take x.last e.lines) ∙ (let q = length-take-le x.last e.lines r.spans.last_in in let from = r.from in omega arith)
 
-  exchanges : (splits : Bool) → (splits ≡ false → list_any ends_line replacement ≡ false) → Exchanges splits x.first x.last e.lines new.0
+  -- without a split one line comes of each
+  block-one : (list_any ends_line replacement ≡ false) → All (MakesOne (made_of text replacement choice) (made-some text replacement choice)) block
+  block-one plain =
+      All-weaker (λ (line : Line). IsLine line.bytes) (MakesOne (made_of text replacement choice) (made-some text replacement choice))
+      (λ line is ts e. made-one text replacement choice plain line.bytes ts is e) block
+      (All-drop (λ (line : Line). IsLine line.bytes) (x.first - 1) (take x.last e.lines)
+      (All-take (λ (line : Line). IsLine line.bytes) x.last e.lines whole))
+
+  exchanges : (splits : Bool) → (splits ≡ false → list_any ends_line replacement ≡ false) → Exchanges text splits x.first x.last e.lines new.0
   exchanges splits plain = record {
     least = let q = results-least (made_of text replacement choice) (made-some text replacement choice) block in let z = block-size in omega arith;
     same = λ k. results-same (made_of text replacement choice) (made-one text replacement choice (plain k)) block
@@ -157,6 +167,17 @@ module _ (text : List ℕ) (replacement : List Part) (choice : Which) (s : State
         (All-take (λ (line : Line). IsLine line.bytes) x.last e.lines whole)) ∙ block-size;
     none = λ letter line h after.
         results-none (made_of text replacement choice) letter block (none-dropped letter (take x.last e.lines) (x.first - 1) (line_with-take_before letter e.lines x.last line h after));
+    spared = λ letter line h low high unmatched.
+        let q = results-spared (made_of text replacement choice) (made-some text replacement choice) letter (line - (x.first - 1)) block
+        (line_with-between letter e.lines x.first x.last line h r.from low high)
+        (made-unmatched text replacement choice _ (ap (λ (l : Line). matches text l.bytes) (at-between e.lines x.first x.last line r.from low high) ∙ unmatched)) in
+        let from = r.from in
+        let further = q.low in (
+          x.first - 1 + q.place,
+          line_with-replaced_within letter e.lines new.0 x.first x.last line q.place h r.from low q.there,
+          omega arith,
+          λ k. let same = q.same (block-one (plain k)) in omega arith,
+        );
   }
 
   -- a substitution in each of the lines
@@ -178,12 +199,12 @@ module _ (text : List ℕ) (replacement : List Part) (choice : Which) (s : State
         (elim s.replacements.split as (λ b. s.replacements.split ≡ b → G b) [
           | true ↦ λ k.
               let by = exchanges true (λ z. absurd cc) in
-              let q = exchanged-split true s e x r new.0 by current (omega arith) in
+              let q = exchanged-split text true s e x r followed possible new.0 by current (omega arith) in
               altered-aside listed start s (with_zone (current_split s.zone (marks_substituted true s).zone) (marks_substituted true s)) begun e st r.spans.stands.remembered r.spans.stands.past q.aside lines current q.numbers q.buffer
           | false ↦ λ k.
               let by = exchanges false (λ z. allows-plain s.replacements replacement kind k) in
               let size = by.same refl in
-              let q = exchanged-last false s e x r new.0 by refl current (omega arith) in
+              let q = exchanged-last text false s e x r followed possible new.0 by refl current (omega arith) in
               altered-aside listed start s (with_zone (after_set (marks_substituted false s).zone 1 4 (pos 0)) (marks_substituted false s)) begun e st r.spans.stands.remembered r.spans.stands.past q.aside lines current q.numbers q.buffer
         ]) refl
 
@@ -199,7 +220,7 @@ module _ (text : List ℕ) (replacement : List Part) (choice : Which) (s : State
         let from = r.from in
         let by = exchanges splits (λ k. allows-plain s.replacements replacement kind k) in
         let within = results-within (made_of text replacement choice) (made-some text replacement choice) block n is in
-        let q = exchanged-within splits s e x r new.0 by current (omega arith) (omega arith) in
+        let q = exchanged-within text splits s e x r followed possible new.0 by current (omega arith) (omega arith) in
         altered-aside listed start s (with_zone (current_within splits (marks_substituted splits s).zone) (marks_substituted splits s))
         begun e st r.spans.stands.remembered r.spans.stands.past q.aside lines current q.numbers q.buffer
 
@@ -296,8 +317,8 @@ module _ (text : List ℕ) (replacement : List Part) (choice : Which) (form : Op
       let each_one : matches_each s (Some text) ≡ true = has_choice-all (matches_each s) s.patterns (Some text) q.0 possible in
       let makes = each-makes each_one q.1 in
       Agrees-ok (Leads listed begun) (surely_substituted listed start s) _ (made listed form x e results)
-      (outcome listed form x e results (length results.0) (last-made text replacement choice s e x r whole kind listed start begun st makes))
-      (surely-follows text replacement choice s e x r whole kind listed start begun st makes)
+      (outcome listed form x e results (length results.0) (last-made text replacement choice s e x r followed possible whole kind listed start begun st makes))
+      (surely-follows text replacement choice s e x r followed possible whole kind listed start begun st makes)
 
   -- an addressed line that is known to match
   among-matched : s.follows ≡ true → list_any (is_match_among s.zone text) s.facts.lines ≡ true → is_matched addressed_lines text ≡ true
@@ -344,7 +365,7 @@ module _ (text : List ℕ) (replacement : List Part) (choice : Which) (form : Op
           | inr all ↦ all-matched all
         ]
         | inr always ↦
-            let size = block-size text replacement choice s e x r whole kind in
+            let size = block-size text replacement choice s e x r followed possible whole kind in
             let from = r.from in
             let order = r.order in
             always-matched text addressed_lines always (omega arith)
@@ -360,13 +381,13 @@ module _ (text : List ℕ) (replacement : List Part) (choice : Which) (form : Op
       results-some (made_of text replacement choice) (matches text) (λ line h. matching-makes text replacement choice line h w.1)
       addressed_lines (some-matched q.0 one) in
       Agrees-ok (Leads listed begun) (partly_substituted listed start s) _ (made listed form x e results)
-      (outcome listed form x e results m.0 m.1) (partly-follows text replacement choice s e x r whole kind listed start begun st m.0 m.1)
+      (outcome listed form x e results m.0 m.1) (partly-follows text replacement choice s e x r followed possible whole kind listed start begun st m.0 m.1)
 
   -- nothing is sure to match
   none-sound : (listed : Bool) → Agrees (Leads listed begun) (substituted_if false false listed start s) (made listed form x e results)
   none-sound true =
       partly-leads form start begun x s e (r.spans.numbers, r.spans.stands) results
-      (λ n is. partly-follows text replacement choice s e x r whole kind true start begun st n is)
+      (λ n is. partly-follows text replacement choice s e x r followed possible whole kind true start begun st n is)
   none-sound false = tt
 
   made-sound : (listed : Bool) →

@@ -26,10 +26,10 @@ use Rattle.ed_rules.specs.declared.state.State.{State}
 use Rattle.ed_rules.specs.Marks.{is_sure, for_each_sure}
 use Rattle.ed_rules.specs.StandsFor.{ends_line}
 use Rattle.ed_rules.specs.Order.{join}
-use Rattle.ed_rules.specs.Pieces.{with_zone, modified, inserted, mark_moved, mark_lost, mark_replaced, replaced}
+use Rattle.ed_rules.specs.Pieces.{with_zone, modified, inserted, is_told_apart, moved_beside, mark_moved, mark_lost, mark_replaced, replaced}
 use Rattle.ed_rules.specs.Lines.{text_after, appended, put_before, joined, joined_given, marked, current_at, copied_lines}
-use Rattle.ed_rules.specs.Move.{moved_zone}
-use Rattle.ed_rules.specs.Substituting.{possible_kinds, replacement_used, pattern_used, mark_substituted, marks_substituted, substituted}
+use Rattle.ed_rules.specs.Move.{is_target_told_apart, moved_zone}
+use Rattle.ed_rules.specs.Substituting.{possible_kinds, replacement_used, pattern_used, is_left_alone, mark_kept, mark_substituted, marks_substituted, substituted}
 use Rattle.ed_rules.specs.Substituting.{surely_substituted, partly_substituted, substituted_if}
 use Rattle.ed_rules.specs.Files.{named, filled, named_first, named_anew, maybe_modified, lines_read, changed_by_lines, changed_by_write}
 use Rattle.ed_rules.specs.Files.{loaded, saved, edited}
@@ -41,7 +41,7 @@ use Rattle.ed_rules.proofs.formed.Speaking.{Speaks-shift}
 use Rattle.ed_rules.proofs.formed.Naming.{is_spoken, letter-spoken}
 use Rattle.ed_rules.proofs.formed.SpeakingPieces.{Inner, IsLow, Inner-guard, Inner-set, Inner-shift, Inner-forget, Inner-inserted}
 use Rattle.ed_rules.proofs.formed.SpeakingPieces.{Inner-current_inserted, Inner-left_over, Inner-current_replaced, Inner-moved_up}
-use Rattle.ed_rules.proofs.formed.SpeakingPieces.{Inner-moved_down, Inner-current_substituted, Inner-current_within, Inner-current_read}
+use Rattle.ed_rules.proofs.formed.SpeakingPieces.{Inner-moved_down, Inner-moved_either, Inner-current_substituted, Inner-current_within, Inner-current_read}
 use Rattle.ed_rules.proofs.through.Needs.{needed, IfOk-needing}
 use Rattle.ed_rules.proofs.through.Addresses.{KeptAt, possible-through}
 
@@ -149,21 +149,28 @@ module _ (P : State → Type 0) (Pattern Path : List ℕ → Type 0) (Loads : Ty
 
   -- LINES IN PLACE OF OTHERS
 
-  replaced-marking : (n : ℕ) (sure : List Bool) (k : ℕ) (s : State) → k < 26 → is_sure sure k ≡ true → Marking P sure k s →
-      Marking P sure (suc k) (mark_replaced n k s)
+  beside-marking : (n : ℕ) (sure : List Bool) (k : ℕ) (s : State) → k < 26 → is_sure sure k ≡ true → Marking P sure k s →
+      Marking P sure (suc k) (with_zone (moved_beside n (mark k) s.zone) s)
+  unfolding moved_beside
+  beside-marking zero sure k s l e h = marking-shift sure k s (Some (negsuc 0)) (Some (pos 0)) l e h
+  beside-marking (suc n) sure k s l e h = marking-shift sure k s (Some (pos 0)) (Some (pos n)) l e h
+
+  replaced-marking : (before : Bounds) (n : ℕ) (sure : List Bool) (k : ℕ) (s : State) → k < 26 → is_sure sure k ≡ true →
+      Marking P sure k s → Marking P sure (suc k) (mark_replaced before n k s)
   unfolding mark_replaced mark_moved
-  replaced-marking n sure k s l e h =
+  replaced-marking before n sure k s l e h =
       cond_both (known s.zone (mark k) 3 (negsuc 0)) _ _ (Marking P sure (suc k)) (λ _. marking-same sure k s h)
       (λ _. cond_both (known s.zone 4 (mark k) (negsuc 0)) _ _ (Marking P sure (suc k)) (λ _. marking-shift sure k s _ _ l e h)
-      (λ _. marking-lost sure k s h))
+      (λ _. cond_both (is_told_apart before k s) _ _ (Marking P sure (suc k)) (λ _. beside-marking n sure k s l e h)
+      (λ _. marking-lost sure k s h)))
 
   replaced-through : (n : ℕ) (s : State) → P s → P (replaced n s)
   unfolding replaced
   replaced-through n s q =
-      let t : State = for_each_sure (mark_replaced n) s.marks 26 s in
+      let t : State = for_each_sure (mark_replaced s.zone n) s.marks 26 s in
       anew t _ (λ i. Inner-set t.marks _ 2 5 (pos n) refl refl
       (Inner-current_replaced t.marks n _ (Inner-left_over t.marks s.zone t.zone i)))
-      (all-marked (mark_replaced n) s (replaced-marking n s.marks) q)
+      (all-marked (mark_replaced s.zone n) s (replaced-marking s.zone n s.marks) q)
 
   changed-through : (listed : Bool) (n : ℕ) (s : State) → P s → P (modified listed start (replaced n s))
   changed-through listed n s q = keeps.changes listed (replaced n s) (replaced-through n s q)
@@ -216,28 +223,34 @@ module _ (P : State → Type 0) (Pattern Path : List ℕ → Type 0) (Loads : Ty
       (λ i. Inner-shift s.marks _ 1 _ _ refl
       (Inner-set s.marks _ 1 5 (pos 1) refl refl (Inner-inserted s.marks 5 (pos 0) _ _ s.zone i))) q)
 
-  moved-zone : (marks : List Bool) (zone : Bounds) → IfOk (moved_zone marks zone) (λ after. Inner marks zone → Inner marks after)
-  moved-zone marks zone =
+  moved-zone : (apart : Bool) (marks : List Bool) (zone : Bounds) →
+      IfOk (moved_zone apart marks zone) (λ after. Inner marks zone → Inner marks after)
+  moved-zone apart marks zone =
       cond_both (known zone 5 3 (negsuc 0)) _ _ (λ (r : Result Bounds Fault). IfOk r (λ after. Inner marks zone → Inner marks after))
       (λ _ i. Inner-moved_up marks zone i)
       (λ _. cond_both (known zone 4 5 (negsuc 0)) _ _
       (λ (r : Result Bounds Fault). IfOk r (λ after. Inner marks zone → Inner marks after)) (λ _ i. Inner-moved_down marks zone i)
-      (λ _. tt))
+      (λ _. cond_both apart _ _ (λ (r : Result Bounds Fault). IfOk r (λ after. Inner marks zone → Inner marks after))
+      (λ _ i. Inner-moved_either marks zone i) (λ _. tt)))
 
   -- SUBSTITUTION
 
-  substituted-marking : (splits : Bool) (sure : List Bool) (k : ℕ) (s : State) → k < 26 → is_sure sure k ≡ true →
-      Marking P sure k s → Marking P sure (suc k) (mark_substituted splits k s)
+  kept-marking : (splits : Bool) (sure : List Bool) (k : ℕ) (s : State) → k < 26 → is_sure sure k ≡ true →
+      Marking P sure k s → Marking P sure (suc k) (mark_kept splits k s)
+  kept-marking true sure k s l e h = marking-shift sure k s (Some (pos 0)) None l e h
+  kept-marking false sure k s l e h = marking-same sure k s h
+
+  substituted-marking : (before : Bounds) (splits : Bool) (sure : List Bool) (k : ℕ) (s : State) → k < 26 → is_sure sure k ≡ true →
+      Marking P sure k s → Marking P sure (suc k) (mark_substituted before splits k s)
   unfolding mark_substituted
-  substituted-marking splits sure k s l e h =
-      cond_both (known s.zone 4 (mark k) (negsuc 0)) _ _ (Marking P sure (suc k))
-      (λ _. cond_both splits _ _ (Marking P sure (suc k)) (λ _. marking-shift sure k s (Some (pos 0)) None l e h)
-      (λ _. marking-same sure k s h))
+  substituted-marking before splits sure k s l e h =
+      cond_both (known s.zone 4 (mark k) (negsuc 0)) _ _ (Marking P sure (suc k)) (λ _. kept-marking splits sure k s l e h)
       (λ _. cond_both (known s.zone (mark k) 3 (negsuc 0)) _ _ (Marking P sure (suc k)) (λ _. marking-same sure k s h)
-      (λ _. marking-lost sure k s h))
+      (λ _. cond_both (is_left_alone before k s) _ _ (Marking P sure (suc k)) (λ _. kept-marking splits sure k s l e h)
+      (λ _. marking-lost sure k s h)))
 
   substituted_marks-through : (splits : Bool) (s : State) → P s → P (marks_substituted splits s)
-  substituted_marks-through splits s q = all-marked (mark_substituted splits) s (substituted-marking splits s.marks) q
+  substituted_marks-through splits s q = all-marked (mark_substituted s.zone splits) s (substituted-marking s.zone splits s.marks) q
 
   surely-through : (listed : Bool) (s : State) → P s → P (surely_substituted listed start s)
   unfolding surely_substituted
@@ -325,7 +338,8 @@ module _ (P : State → Type 0) (Pattern Path : List ℕ → Type 0) (Loads : Ty
   effect-through listed own (ed.Write form) s g f may q = current-through 4 s refl q
   effect-through listed own ed.Null s g f may q = current-through 3 s refl q
   effect-through listed own (ed.Move to) s g f may q =
-      IfOk-bind (λ zone. Inner s.marks s.zone → Inner s.marks zone) P (moved_zone s.marks s.zone) _ (moved-zone s.marks s.zone)
+      IfOk-bind (λ zone. Inner s.marks s.zone → Inner s.marks zone) P (moved_zone (is_target_told_apart s) s.marks s.zone) _
+      (moved-zone (is_target_told_apart s) s.marks s.zone)
       (λ zone i. keeps.changes listed (with_zone zone s) (anew s zone i q))
   effect-through listed own (ed.Copy to) s g f may q = copied-through listed s q
   effect-through listed own (ed.Substitute pattern parts choice form) s g f may q = substituted-through listed pattern parts choice s g q

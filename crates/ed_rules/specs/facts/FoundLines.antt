@@ -22,8 +22,12 @@ without x facts = record {
   clear = filter (λ s. not (s.after == x) && not (s.before == x)) facts.clear;
 }
 
+-- the line x matches the pattern, or it doesn't
+abbrev pub with_answer : (x : ℕ) → (pattern : List ℕ) → (matches : Bool) → Facts → Facts
+with_answer x pattern matches facts = record facts { lines = (record { name = x; pattern = pattern; matches = matches }) ∷ facts.lines }
+
 abbrev pub with_match : (x : ℕ) → (pattern : List ℕ) → Facts → Facts
-with_match x pattern facts = record facts { lines = (record { name = x; pattern = pattern; matches = true }) ∷ facts.lines }
+with_match x pattern facts = with_answer x pattern true facts
 
 abbrev pub with_stretch : (after before : ℕ) → (pattern : List ℕ) → Facts → Facts
 with_stretch after before pattern facts = record facts {

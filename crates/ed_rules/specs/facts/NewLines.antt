@@ -8,9 +8,10 @@ use Rattle.ed_rules.specs.declared.line_facts.new_lines.NewLines.TheVariants.{Go
 use Rattle.ed_rules.specs.declared.line_facts.new_lines.Tested.{Tested}
 use Rattle.ed_rules.specs.declared.line_facts.edited.Look.{Look}
 use Rattle.ed_rules.specs.declared.line_facts.edited.Kind.{Kind}
-use Rattle.ed_rules.specs.declared.line_facts.edited.Kind.TheVariants.{Staying, Before, After, Carried}
+use Rattle.ed_rules.specs.declared.line_facts.edited.Kind.TheVariants.{Staying, Before, After, Carried, Spared}
 use Rattle.ed_rules.specs.facts.Facts.{LineFact, Stretch, Facts, Point, same_text, at, point, end, le, below, is_clear, tells, told}
 use Rattle.ed_rules.specs.facts.CarriedFacts.{stretch_carried}
+use Rattle.ed_rules.specs.facts.SubstitutedFacts.{is_spared}
 use Rattle.ed_rules.specs.facts.EditedFacts.{Fresh, Between, edit_of, is_free, is_free_before_last, is_single, told_fact, entered_line}
 
 -- NEW LINES
@@ -107,6 +108,10 @@ is_left Carried zone facts gap same look after before =
       before = before;
       pattern = look.pattern;
     })
+is_left Spared zone facts gap same look after before =
+    not (after == before) && (is_clear_of zone look (point after) (point before) &&
+    (le zone (point before) (at name.first_address) (pos 0) || (le zone (at name.second_address) (point after) (pos 0) ||
+    list_all (λ q. is_clear zone facts (point after) (point before) q) same)))
 
 -- the stretches of one pattern that are left from one name
 abbrev pub left_from : Kind → Bounds → Facts → Between → (same : List (List ℕ)) → (befores : List ℕ) → Look → (after : ℕ) → List Stretch
@@ -153,4 +158,13 @@ carried_by zone facts gap same kept looks = record {
   lines = (filter (λ f. list_any (nat_eq f.name) kept) facts.lines ++ last_aside zone facts) ++
       flat_map (λ look. told_fact name.current_line look.pattern look.tested.last) looks;
   clear = flat_map (left_of Carried zone facts gap same (name.zero ∷ kept) (end ∷ kept)) looks;
+}
+
+-- WHAT IS LEFT WHERE LINES THAT MATCH ARE CHANGED
+
+-- The facts of these names, if their lines surely stay. Here `same` are the patterns that may be looked for.
+abbrev pub spared_by : Bounds → Facts → Between → (same : List (List ℕ)) → (kept : List ℕ) → List Look → Facts
+spared_by zone facts gap same kept looks = record {
+  lines = filter (λ f. (list_any (nat_eq f.name) kept || f.name == name.last_line) && is_spared zone facts same f.name) facts.lines;
+  clear = flat_map (left_of Spared zone facts gap same (name.zero ∷ kept) (end ∷ kept)) looks;
 }

@@ -1,15 +1,15 @@
 //! What is known of lines where some are carried elsewhere.
 
-ghost use Rattle.std.specs.Prelude.{◌≡◌, ◌≤ℤ◌, ◌<◌, ◌&&◌, ◌||◌, ◌++◌, All, map, pos, negsuc, IfOk, OnOk};
+ghost use Rattle.std.specs.Prelude.{◌≡◌, ◌≤ℤ◌, ◌<◌, ◌&&◌, ◌||◌, ◌++◌, ◌∷◌, All, map, flat_map, pos, negsuc, IfOk, OnOk};
 ghost use Rattle.zones.specs.Name as name;
 ghost use Rattle.zones.specs.Name.{mark};
-ghost use Rattle.ed_rules.specs.facts.Facts.{at, point_at, le, below};
+ghost use Rattle.ed_rules.specs.facts.Facts.{at, point_at, end, le, below};
 ghost use Rattle.ed_rules.specs.facts.CarriedFacts.{stretch_carried, carried_facts};
 ghost use Rattle.ed_rules.specs.facts.EditedFacts.{reading};
-ghost use Rattle.ed_rules.specs.facts.NewLines.{last_aside, carried_by};
+ghost use Rattle.ed_rules.specs.facts.NewLines.{left_of, last_aside, carried_by};
 ghost use Rattle.ed_rules.specs.FactsAfter.{letters_that_stay};
 
-use crate::line_facts::edited::{Edited, Gap, Kind, Look, add_stretches, add_told, looks_at};
+use crate::line_facts::edited::{Edited, Gap, Kind, Look, add_told, looks_at};
 use crate::line_facts::known::{is_at_most, name_of, plus_of};
 use crate::line_facts::new_lines::NewLines;
 use crate::line_facts::{ClearStretch, KnownLine, LineFacts, edge_of};
@@ -62,31 +62,26 @@ impl Old {
         }
     }
 
-    /// The stretches between the letters, 0 and the end.
-    fn stretches_carried(
+    /// The stretches of one kind that are left between the letters, 0 and the end.
+    pub(super) fn stretches_between(
         &self,
         alloc: Global,
         edited: &Edited,
+        kind: Kind,
         kept: Vec<u8>,
     ) -> Result<Vec<ClearStretch>, AllocError>
         requires in_range { All (λ x. x < 32) kept.items }
         ensures value { IfOk result (λ clear. clear.items ≡
-            (carried_by self.now.zone self.now.facts edited.now.gap edited.now.same.items kept.items edited.now.looks.items).clear) }
+            flat_map (left_of kind self.now.zone self.now.facts edited.now.gap edited.now.same.items (name.zero ∷ kept.items) (end ∷ kept.items))
+            edited.now.looks.items) }
     {
         let mut afters = kept.clone()?;
         afters.insert(0, edge_of(Name::ZERO))?;
         let mut befores = kept;
         befores.insert(0, ClearStretch::END)?;
         let mut clear = Vec::new(alloc);
-        add_stretches(
-            &self.zone,
-            &self.facts,
-            edited,
-            Kind::Carried,
-            afters.as_slice(),
-            befores.as_slice(),
-            &mut clear,
-        )?;
+        let (afters, befores) = (afters.as_slice(), befores.as_slice());
+        self.add_left(edited, kind, afters, befores, &mut clear)?;
         Ok(clear)
     }
 
@@ -122,7 +117,7 @@ impl Old {
         self.facts.add_kept(kept.as_slice(), &mut lines)?;
         self.add_last_aside(&mut lines)?;
         add_told(Name::CURRENT_LINE, edited.looks.as_slice(), &mut lines)?;
-        let clear = self.stretches_carried(alloc, edited, kept)?;
+        let clear = self.stretches_between(alloc, edited, Kind::Carried, kept)?;
         Ok(LineFacts { lines, clear })
     }
 }

@@ -12,6 +12,7 @@ ghost use Rattle.ed_rules.specs.FactsAfter.{stays_marked, letters_that_stay};
 use crate::line_facts::carried::is_carried;
 use crate::line_facts::known::{is_at_most, name_of, plus_of};
 use crate::line_facts::new_lines::{NewLines, Tested};
+use crate::line_facts::substituted::is_spared;
 use crate::line_facts::{ClearStretch, KnownLine, LineFacts, edge_of};
 use crate::marks::Marks;
 use crate::state::Old;
@@ -41,16 +42,19 @@ impl Model for Gap {
     ghost invariant = { λ gap. (negsuc 0 ≤ℤ gap.from_plus) × (gap.from_plus ≤ℤ pos 1) × (negsuc 0 ≤ℤ gap.to_plus) × (gap.to_plus ≤ℤ pos 1) };
 }
 
-/// Which of its names a stretch has of the line that is current then: none, the second, the first; or none where lines are carried elsewhere.
+/// Which of its names a stretch has of the line that is current then: none, the second, the first; or none where lines are carried elsewhere,
+/// or those that match are changed.
 #[derive(Clone, Copy)]
 pub(super) enum Kind {
     Staying,
     Before,
     After,
     Carried,
+    Spared,
 }
 
-/// An edit: the lines that give way, the patterns that the line which gives way is known to match, and what is at hand of each pattern.
+/// An edit: the lines that give way, the patterns that the line which gives way is known to match, or those that may be looked for, and what is
+/// at hand of each pattern.
 #[derive(Drop)]
 pub(super) struct Edited {
     pub(super) gap: Gap,
@@ -166,7 +170,7 @@ impl LineFacts {
     }
 
     /// Whether the lines x and y are known to be two.
-    fn differ(&self, zone: &Zone, x: Name, y: Name) -> bool
+    pub(crate) fn differ(&self, zone: &Zone, x: Name, y: Name) -> bool
         ensures value { result ≡ differ zone.now self.now x y }
     {
         self.lines_differ(zone, x, y) || self.stretches_differ(zone, x, y)
@@ -382,6 +386,7 @@ fn is_left(
             gap.is_before(zone, y, j) && look.is_clear(zone, gap.to, gap.to_plus, y, j)
         }
         Kind::Carried => is_carried(zone, look, after, before),
+        Kind::Spared => is_spared(zone, facts, edited, look, after, before),
     }
 }
 
@@ -437,27 +442,6 @@ fn add_of(
     Ok(())
 }
 
-/// Adds the stretches of all these patterns that are left.
-pub(super) fn add_stretches(
-    zone: &Zone,
-    facts: &LineFacts,
-    edited: &Edited,
-    kind: Kind,
-    afters: &[u8],
-    befores: &[u8],
-    clear: &mut Vec<ClearStretch>,
-) -> Result<(), AllocError>
-    requires afters_in_range { All (λ x. x < 33) afters.now }
-    requires befores_in_range { All (λ y. y < 33) befores.now }
-    ensures value { OnOk result (clear.new.items ≡ clear.old.items ++
-        flat_map (left_of kind zone.now facts.now edited.now.gap edited.now.same.items afters.now befores.now) edited.now.looks.items) }
-{
-    for look in &edited.looks {
-        add_of(zone, facts, edited, look, kind, afters, befores, clear)?;
-    }
-    Ok(())
-}
-
 /// What is at hand of each of these patterns.
 pub(super) fn looks_at(
     alloc: Global,
@@ -504,7 +488,7 @@ pub(super) fn add_told(
 }
 
 /// Whether an edge is one of these.
-fn is_among(edge: u8, edges: &[u8]) -> bool
+pub(super) fn is_among(edge: u8, edges: &[u8]) -> bool
     ensures value { result ≡ list_any (nat_eq edge) edges.now }
 {
     for other in edges {
@@ -583,6 +567,35 @@ impl Old {
         Ok(LineFacts { lines, clear })
     }
 
+    /// Adds the stretches of one kind that are left from one of these names to one of those.
+    pub(super) fn add_left(
+        &self,
+        edited: &Edited,
+        kind: Kind,
+        afters: &[u8],
+        befores: &[u8],
+        clear: &mut Vec<ClearStretch>,
+    ) -> Result<(), AllocError>
+        requires afters_in_range { All (λ x. x < 33) afters.now }
+        requires befores_in_range { All (λ y. y < 33) befores.now }
+        ensures value { OnOk result (clear.new.items ≡ clear.old.items ++
+            flat_map (left_of kind self.now.zone self.now.facts edited.now.gap edited.now.same.items afters.now befores.now) edited.now.looks.items) }
+    {
+        for look in &edited.looks {
+            add_of(
+                &self.zone,
+                &self.facts,
+                edited,
+                look,
+                kind,
+                afters,
+                befores,
+                clear,
+            )?;
+        }
+        Ok(())
+    }
+
     /// The stretches between the names that stay, 0, the current line and the end.
     fn stretches_left(
         &self,
@@ -594,7 +607,6 @@ impl Old {
         ensures value { IfOk result (λ clear. clear.items ≡
             all_left self.now.zone self.now.facts edited.now.gap edited.now.same.items kept.items edited.now.looks.items) }
     {
-        let (zone, facts) = (&self.zone, &self.facts);
         let current = [edge_of(Name::CURRENT_LINE)];
         let mut afters = kept.clone()?;
         afters.insert(0, edge_of(Name::ZERO))?;
@@ -602,33 +614,9 @@ impl Old {
         befores.insert(0, ClearStretch::END)?;
         let (afters, befores) = (afters.as_slice(), befores.as_slice());
         let mut clear = Vec::new(alloc);
-        add_stretches(
-            zone,
-            facts,
-            edited,
-            Kind::Staying,
-            afters,
-            befores,
-            &mut clear,
-        )?;
-        add_stretches(
-            zone,
-            facts,
-            edited,
-            Kind::Before,
-            afters,
-            &current,
-            &mut clear,
-        )?;
-        add_stretches(
-            zone,
-            facts,
-            edited,
-            Kind::After,
-            &current,
-            befores,
-            &mut clear,
-        )?;
+        self.add_left(edited, Kind::Staying, afters, befores, &mut clear)?;
+        self.add_left(edited, Kind::Before, afters, &current, &mut clear)?;
+        self.add_left(edited, Kind::After, &current, befores, &mut clear)?;
         Ok(clear)
     }
 }

@@ -103,7 +103,7 @@ impl LineFacts {
     }
 
     /// Whether the line x lies within a stretch without a line that matches the pattern.
-    fn are_around(&self, zone: &Zone, x: Name, pattern: &[u8]) -> bool
+    pub(super) fn are_around(&self, zone: &Zone, x: Name, pattern: &[u8]) -> bool
         ensures value { result ≡ list_any (holds_line zone.now x pattern.now) self.now.clear }
     {
         for stretch in &self.clear {
@@ -127,7 +127,7 @@ impl LineFacts {
 }
 
 /// Whether two names are known to be one number.
-fn are_same(zone: &Zone, x: Name, y: Name) -> bool
+pub(crate) fn are_same(zone: &Zone, x: Name, y: Name) -> bool
     ensures value { result ≡ same zone.now x y }
 {
     is_at_most(zone, x, 0, y, 0, 0) && is_at_most(zone, y, 0, x, 0, 0)

@@ -1,4 +1,4 @@
-use Rattle.ed_rules.proofs.matches.MatchesFormed.{start-matches, command-matches, join-matches, widen-matches, entry-matches, end-matches, watched-formed}
+use Rattle.ed_rules.proofs.matches.MatchesFormed.{start-matches, command-matches, join-matches, widen-matches, entry-matches, once-matches, end-matches, watched-formed}
 use Rattle.ed_rules.proofs.laws.matches_stay_formed.Goals as goal
 
 pub returns : goal.returns
@@ -8,6 +8,7 @@ returns c = record {
   join = join-matches;
   widen = widen-matches;
   entry = entry-matches;
+  once = once-matches;
   end = end-matches;
   watched = watched-formed;
 }

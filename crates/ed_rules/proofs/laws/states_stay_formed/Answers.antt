@@ -1,4 +1,4 @@
-use Rattle.ed_rules.proofs.formed.StatesFormed.{start-formed, command-formed, join-formed, widen-formed, entry-formed, end-formed}
+use Rattle.ed_rules.proofs.formed.StatesFormed.{start-formed, command-formed, join-formed, widen-formed, entry-formed, once-formed, end-formed}
 use Rattle.ed_rules.proofs.laws.states_stay_formed.Goals as goal
 
 pub returns : goal.returns
@@ -8,5 +8,6 @@ returns c = record {
   join = join-formed;
   widen = widen-formed;
   entry = entry-formed;
+  once = once-formed;
   end = end-formed;
 }

@@ -1,7 +1,5 @@
-use Rattle.std.proofs.Common.{◌≡◌, ◌++◌, ℕ, map, drop}
-use Rattle.std.specs.List.{filter}
-use Rattle.ed_rules.specs.facts.Facts.{Stretch}
-use Rattle.ed_rules.specs.facts.NewLines.{is_left, left_from}
+use Rattle.std.proofs.Common.{◌≡◌, ◌++◌, drop}
+use Rattle.ed_rules.specs.facts.NewLines.{left_from}
 use Rattle.ed_rules.proofs.line_facts.edited.add_from.Given as goal
 
 abbrev pub invariant-loop-before : goal.invariant-loop-before

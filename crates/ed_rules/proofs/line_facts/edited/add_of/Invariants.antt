@@ -1,5 +1,5 @@
-use Rattle.std.proofs.Common.{◌≡◌, ◌++◌, flat_map, drop}
-use Rattle.ed_rules.specs.facts.NewLines.{left_from, left_of}
+use Rattle.std.proofs.Common.{◌≡◌, ◌++◌, drop}
+use Rattle.ed_rules.specs.facts.NewLines.{left_of}
 use Rattle.ed_rules.proofs.line_facts.edited.add_of.Given as goal
 
 abbrev pub invariant-loop-after : goal.invariant-loop-after

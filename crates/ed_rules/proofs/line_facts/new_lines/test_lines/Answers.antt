@@ -1,11 +1,9 @@
-use Rattle.std.proofs.Common.{◌≡◌, ℕ, Bool, false, List, Some, IfOk, map, ap, sym, subst, ◌∙◌}
+use Rattle.std.proofs.Common.{◌≡◌, ℕ, Bool, false, List, IfOk, sym, subst, ◌∙◌}
 use Rattle.std.specs.Option.{is_some}
 use Rattle.bre_parse.specs.Bre.{bre_tree}
 use Rattle.bre_parse.specs.Match.{match_from}
 use Rattle.ed_base.specs.Lines.{lines_of}
 use Rattle.ed_rules.specs.declared.line_facts.new_lines.Tested.{Tested}
-use Rattle.ed_rules.specs.facts.EditedFacts.{entered_line}
-use Rattle.ed_rules.specs.facts.NewLines.{tested, tested_by}
 use Rattle.ed_rules.proofs.facts.EditCalls.{tested-entered}
 use Rattle.ed_rules.proofs.matches.Watched.{matched-none, matched-by}
 use Rattle.ed_rules.proofs.line_facts.new_lines.test_lines.Goals as goal

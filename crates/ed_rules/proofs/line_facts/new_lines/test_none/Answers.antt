@@ -1,4 +1,4 @@
-use Rattle.std.proofs.Common.{ℕ, Bool, false, List, map, ap, sym, ◌∙◌}
+use Rattle.std.proofs.Common.{ℕ, false, List, map, ap, sym, ◌∙◌}
 use Rattle.ed_base.specs.Lines.{lines_of}
 use Rattle.ed_rules.specs.facts.NewLines.{tested_by}
 use Rattle.ed_rules.proofs.facts.EditCalls.{none-lines}

@@ -4,4 +4,4 @@ use Rattle.ed_rules.specs.Substituting.{mark_substituted}
 use Rattle.ed_rules.proofs.state.State.substitute_marks.Given as goal
 
 abbrev pub invariant-loop-place : goal.invariant-loop-place
-invariant-loop-place l = l.self ≡ for_each_sure (mark_substituted l.splits) l.marks l.place l.initial.self
+invariant-loop-place l = l.self ≡ for_each_sure (mark_substituted l.before l.splits) l.marks l.place l.initial.self
