@@ -9,7 +9,7 @@ use Rattle.landmarks.specs.declared.which.Which.{Which}
 use Rattle.landmarks.specs.declared.landmark.Landmark.{Landmark}
 use Rattle.landmarks.specs.declared.chain_fault.Never.{Never}
 use Rattle.landmarks.specs.declared.chain_fault.Never.TheVariants as never
-use Rattle.landmarks.specs.Spelled.{SpellsNone, SpellsWhich, SpellsDistance, SpellsTests, SpellsParts, SpellsLandmark, SpellsLandmarks, SpellsChain, NoChain, CanLack, CanBe}
+use Rattle.landmarks.specs.Spelled.{SpellsNone, SpellsWhich, SpellsDistance, SpellsTests, SpellsParts, SpellsLandmark, SpellsLandmarks, SpellsChain, NoChain, MayDiffer, missing_between, CanLack, CanBe}
 use Rattle.landmarks.specs.ChainFaults.{IsNever}
 use Rattle.landmarks.specs.Stops.{NoNone, NoWhich, NoDistance, NoTests, NoParts, NoLandmark, NoLandmarks}
 use Rattle.landmarks.proofs.Determined.{none-one, which-one, distance-one, tests-one}
@@ -78,9 +78,11 @@ landmark-one one other = parts-one one.parts other.parts
 -- a landmark that lacking line can be is none
 pub never-clash : (landmark : Landmark) (why : Never) → IsNever landmark why → CanBe landmark → ⊥
 never-clash landmark (never.Both p) h can =
-    let e : false ≡ true = sym (All-contains (CanLack landmark) landmark.lacks p can h.0).0 ∙ h.1 in cc
+    let e : false ≡ true = sym (All-contains (CanLack landmark) landmark.lacks p can.lacks h.0).0 ∙ h.1 in cc
 never-clash landmark (never.Always p) h can =
-    let e : false ≡ true = sym (All-contains (CanLack landmark) landmark.lacks p can h.0).1 ∙ h.1 in cc
+    let e : false ≡ true = sym (All-contains (CanLack landmark) landmark.lacks p can.lacks h.0).1 ∙ h.1 in cc
+never-clash landmark (never.RightBelow p) h can =
+    let e : false ≡ true = sym (All-contains MayDiffer (missing_between landmark) p (can.below h.0) h.1.0) ∙ h.1.1 in cc
 
 pub no_landmark_never : {text rest : List ℕ} {landmark : Landmark} (why : Never) → SpellsParts text rest landmark → IsNever landmark why → NoLandmark text
 no_landmark_never {text} {rest} {landmark} why parts h after other is =

@@ -10,14 +10,14 @@ use Rattle.ed_syntax.specs.spelling.Quoting.{SpellsQuoted}
 use Rattle.ed_syntax.specs.Ends.{NoQuoted}
 use Rattle.landmarks.specs.declared.landmark.Landmark.{Landmark}
 use Rattle.landmarks.specs.declared.chain_fault.Never.{Never}
-use Rattle.landmarks.specs.declared.chain_fault.Never.TheVariants.{Both, Always}
+use Rattle.landmarks.specs.declared.chain_fault.Never.TheVariants.{Both, Always, RightBelow}
 use Rattle.landmarks.specs.declared.chain_fault.ChainWrong.{ChainWrong}
 use Rattle.landmarks.specs.declared.chain_fault.ChainWrong.TheVariants as wrong
 use Rattle.landmarks.specs.declared.chain_fault.ChainFault.{ChainFault}
 use Rattle.landmarks.specs.declared.chain_fault.ChainFault.TheVariants as fault
 use Rattle.ed_base.specs.Texts.{is_member}
 use Rattle.landmarks.specs.Words.{is_key_delimiter}
-use Rattle.landmarks.specs.Spelled.{SpellsParts, matched_by}
+use Rattle.landmarks.specs.Spelled.{SpellsParts, matched_by, missing_between}
 
 -- A pattern begins here that isn't closed.
 pub record IsUnclosed (here : List ℕ) : Type 0 where
@@ -57,10 +57,16 @@ pub record IsBroken (here : List ℕ) (reason : BreFault) : Type 0 where
   pub broken : NoQuoted delimiter more
   pub refused : pattern more ≡ Err reason
 
--- why no line can be a landmark: one pattern is matched and not matched, or one that isn't matched is matched by each line
+-- each line is seen to match a pattern, which is one of some
+abbrev pub IsAlwaysIn : (patterns : List (List ℕ)) → (pattern : List ℕ) → Type 0
+IsAlwaysIn patterns pattern = Contains patterns pattern × IsTrue (text_is_always pattern)
+
+-- why no line can be a landmark: one pattern is matched and not matched, or each line matches one that it doesn't match, or one that the lines
+-- between don't match
 abbrev pub IsNever : Landmark → Never → Type 0
 IsNever landmark (Both pattern) = Contains landmark.lacks pattern × IsTrue (is_member (matched_by landmark) pattern)
-IsNever landmark (Always pattern) = Contains landmark.lacks pattern × IsTrue (text_is_always pattern)
+IsNever landmark (Always pattern) = IsAlwaysIn landmark.lacks pattern
+IsNever landmark (RightBelow pattern) = (2 ≤ landmark.gap) × IsAlwaysIn (missing_between landmark) pattern
 
 -- The parts of a landmark stand here that no line can be, for this reason.
 pub record IsNoLine (here : List ℕ) (why : Never) : Type 0 where

@@ -1,6 +1,6 @@
 -- Which bytes spell a chain of landmarks (our own).
 -- Each names a text, what stands after the part at its head, and what that part means.
-use Rattle.std.specs.Prelude.{◌≡◌, ℕ, List, [], ◌∷◌, ◌++◌, All, nat_eq, codes, IsFalse}
+use Rattle.std.specs.Prelude.{◌≡◌, ℕ, ◌≤◌, List, [], ◌∷◌, ◌++◌, All, nat_eq, codes, IsFalse}
 use Rattle.bre_parse.specs.Always.{text_is_always}
 use Rattle.ed_base.specs.Lines.{IsLine}
 use Rattle.ed_syntax.specs.spelling.Characters.{ampersand, semicolon_byte, begins, after_blanks}
@@ -62,13 +62,26 @@ sought_by (Numbered n) = []
 abbrev pub matched_by : Landmark → List (List ℕ)
 matched_by landmark = sought_by landmark.which ++ landmark.also
 
+-- a pattern isn't seen to match each line
+abbrev pub MayDiffer : (pattern : List ℕ) → Type 0
+MayDiffer pattern = IsFalse (text_is_always pattern)
+
 -- a pattern that the line of a landmark doesn't match: it is none of those that it matches, and isn't seen to match each line
 abbrev pub CanLack : Landmark → (pattern : List ℕ) → Type 0
-CanLack landmark pattern = IsFalse (is_member (matched_by landmark) pattern) × IsFalse (text_is_always pattern)
+CanLack landmark pattern = IsFalse (is_member (matched_by landmark) pattern) × MayDiffer pattern
 
--- some line may be the landmark, as far as that is seen from its words
-abbrev pub CanBe : Landmark → Type 0
-CanBe landmark = All (CanLack landmark) landmark.lacks
+-- the patterns that no line between the landmark before it and it matches
+abbrev pub missing_between : Landmark → List (List ℕ)
+missing_between landmark = sought_by landmark.which ++ landmark.none
+
+-- where lines stand between the landmark before it and it, none of the patterns that they don't match is seen to match each line
+abbrev pub CanLieBelow : Landmark → Type 0
+CanLieBelow landmark = 2 ≤ landmark.gap → All MayDiffer (missing_between landmark)
+
+-- Some line may be the landmark, as far as that is seen from its words.
+pub record CanBe (landmark : Landmark) : Type 0 where
+  pub lacks : All (CanLack landmark) landmark.lacks
+  pub below : CanLieBelow landmark
 
 -- A landmark, which some line may be.
 pub record SpellsLandmark (text rest : List ℕ) (landmark : Landmark) : Type 0 where

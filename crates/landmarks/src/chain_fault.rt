@@ -14,6 +14,8 @@ pub enum Never {
     Both(Bytes),
     /// It would not match this pattern, which each line matches.
     Always(Bytes),
+    /// It is further down than right below the landmark before it, and the lines between would not match this pattern, which each line matches.
+    RightBelow(Bytes),
 }
 
 /// What is wrong at a place of the text.

@@ -14,7 +14,7 @@ struct Row {
 }
 
 #[rattlefmt::skip]
-static ROWS: [Row; 30] = [
+static ROWS: [Row; 33] = [
     Row { text: b"/^Port/", chain: &[mark!(Named::First(b"^Port"))] },
     Row { text: b"/^Port/ & /22/", chain: &[mark!(Named::First(b"^Port"), also &[b"22"], lacks &[])] },
     Row { text: b"only /^Name: bob/ tail 3", chain: &[mark!(Named::Only(b"^Name: bob"), gap 1, tail 3)] },
@@ -54,6 +54,10 @@ static ROWS: [Row; 30] = [
     // A pattern may be looked for and asked for, and one that matches each line may be asked for.
     Row { text: b"/a/ & /a/ & /x*/", chain: &[mark!(Named::First(b"a"), also &[b"a", b"x*"], lacks &[])] },
     Row { text: b"no /a/ /a/; /a/", chain: &[mark!(Named::First(b"a"), none &[b"a"]), mark!(Named::First(b"a"))] },
+    // What each line matches may be looked for, and lacking between, where no line has to stand between.
+    Row { text: b"/x*/ tail 2", chain: &[mark!(Named::First(b"x*"), gap 1, tail 2)] },
+    Row { text: b"2; no /x*/ 3", chain: &[mark!(Named::Numbered(2)), mark!(Named::Numbered(3), none &[b"x*"])] },
+    Row { text: b"/a/ gap 2 & /x*/", chain: &[mark!(Named::First(b"a"), none &[], gap 2, tail 0, also &[b"x*"], lacks &[])] },
     // A line that is matched in one landmark may be lacking in another.
     Row { text: b"/a/ & not /b/; /b/ & not /a/", chain: &[
         mark!(Named::First(b"a"), also &[], lacks &[b"b"]), mark!(Named::First(b"b"), also &[], lacks &[b"a"])] },

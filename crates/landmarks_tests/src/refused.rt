@@ -19,6 +19,7 @@ enum What {
     End,
     Both(&'static [u8]),
     Always(&'static [u8]),
+    RightBelow(&'static [u8]),
 }
 
 /// A text, the place of its fault, and what is wrong there.
@@ -30,7 +31,7 @@ struct Row {
 }
 
 #[rattlefmt::skip]
-static ROWS: [Row; 59] = [
+static ROWS: [Row; 66] = [
     // A pattern ends with the delimiter that it began with.
     Row { text: b"/a\\/", place: 0, what: What::Unclosed },
     Row { text: b"/[/", place: 0, what: What::Unclosed },
@@ -94,6 +95,14 @@ static ROWS: [Row; 59] = [
     Row { text: b"/a/ & not /a/", place: 0, what: What::Both(b"a") },
     Row { text: b"2; 3 & not /b/ & /b/", place: 2, what: What::Both(b"b") },
     Row { text: b"only /b/ & not /x*/", place: 0, what: What::Always(b"x*") },
+    // It would lie right below the one before it, where each line matches what the lines between don't.
+    Row { text: b"/x*/ gap 2", place: 0, what: What::RightBelow(b"x*") },
+    Row { text: b"1; only /^/ gap 2", place: 2, what: What::RightBelow(b"^") },
+    Row { text: b"no /b/ no /x*/ 3 gap 2", place: 0, what: What::RightBelow(b"x*") },
+    Row { text: b"no /$/ /a/ gap 999999999", place: 0, what: What::RightBelow(b"$") },
+    Row { text: b"no /.*/ /x*/ gap 2", place: 0, what: What::RightBelow(b"x*") },
+    Row { text: b"no /.*/ no /^/ /a/ gap 2", place: 0, what: What::RightBelow(b".*") },
+    Row { text: b"/x*/ gap 2 & not /a*/", place: 0, what: What::Always(b"a*") },
     // The first fault is told, and a newline before all others.
     Row { text: b"/a/ & not /a/; //", place: 0, what: What::Both(b"a") },
     Row { text: b"/a\n/", place: 2, what: What::Newline },
@@ -115,6 +124,9 @@ fn wrong_of(alloc: Global, what: What) -> Result<ChainWrong, AllocError> {
         What::Always(pattern) => {
             Ok(ChainWrong::Never(Never::Always(Bytes::from_slice(alloc, pattern)?)))
         }
+        What::RightBelow(pattern) => Ok(ChainWrong::Never(Never::RightBelow(Bytes::from_slice(
+            alloc, pattern,
+        )?))),
     }
 }
 

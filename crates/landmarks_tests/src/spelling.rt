@@ -45,7 +45,7 @@ static ROWS: [Row; 21] = [
 
 /// What no text spells.
 #[rattlefmt::skip]
-static NOTHING: [&'static [Mark]; 17] = [
+static NOTHING: [&'static [Mark]; 20] = [
     &[],
     // Numbers that aren't from 1 to 999999999, a tail of 0 aside.
     &[mark!(Named::Numbered(0))],
@@ -65,6 +65,9 @@ static NOTHING: [&'static [Mark]; 17] = [
     // No line can be that.
     &[mark!(Named::First(b"a"), also &[], lacks &[b"a"])],
     &[mark!(Named::Numbered(1), also &[], lacks &[b"x*"])],
+    &[mark!(Named::First(b"x*"), gap 2, tail 0)],
+    &[mark!(Named::Numbered(1)), mark!(Named::Only(b"^"), gap 3, tail 0)],
+    &[mark!(Named::Numbered(9), none &[b"a", b"x*"], gap 2, tail 0, also &[], lacks &[])],
     // A chain is spelled whole or not at all.
     &[mark!(Named::First(b"a")), mark!(Named::Numbered(0))],
 ];

@@ -4,7 +4,7 @@ use Rattle.bre_parse.specs.Always.{text_is_always}
 use Rattle.ed_base.specs.Texts.{is_member}
 use Rattle.landmarks.specs.Spelled.{CanLack, matched_by}
 use Rattle.landmarks.proofs.Firsts.{all-here, all-over}
-use Rattle.landmarks.proofs.never.never.Goals as goal
+use Rattle.landmarks.proofs.never.never_lacking.Goals as goal
 
 pub loop-pattern-preserved : goal.loop-pattern-preserved
 loop-pattern-preserved c =
