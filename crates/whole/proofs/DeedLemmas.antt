@@ -3,7 +3,7 @@ use Rattle.std.proofs.Common.{◌≡◌, ℕ, List, [], ◌∷◌, ◌++◌, Boo
 use Rattle.std.proofs.lemmas.List.{get_or_default, map-append, take_more}
 use Rattle.std.proofs.lemmas.List.Concat.{flat_map-append}
 use Rattle.std.proofs.lemmas.List.Elements.{All-head, All-tail}
-use Rattle.whole.specs.Deeds.{Deed, GoesOn, NothingPut, discarded_path, entry_of, holds_back, put_path, ready_path, run_log, tried_path}
+use Rattle.whole.specs.Deeds.{Deed, GoesOn, NothingPut, discarded_path, entry_of, holds_back, put_path, ready_path, readying_path, run_log, tried_path}
 use Rattle.whole.specs.Insides.{discard_deeds, last_deeds, put_deeds, ready_deeds}
 use Rattle.whole.specs.declared.outcome.Outcome.{Outcome}
 use Rattle.whole.specs.declared.outcome.Outcome.TheVariants as outcome
@@ -48,6 +48,14 @@ held-ready (Deed.Draft path bytes given) h = refl
 held-ready (Deed.Ready path done) h = not-so h
 held-ready (Deed.Put path done) h = refl
 held-ready (Deed.Discard path) h = refl
+
+pub held-readying : (deed : Deed) → holds_back deed ≡ true → readying_path deed ≡ []
+held-readying (Deed.Read path given) h = refl
+held-readying (Deed.ReadDraft path given) h = refl
+held-readying (Deed.Draft path bytes given) h = refl
+held-readying (Deed.Ready path done) h = not-so h
+held-readying (Deed.Put path done) h = refl
+held-readying (Deed.Discard path) h = refl
 
 pub held-tried : (deed : Deed) → holds_back deed ≡ true → tried_path deed ≡ []
 held-tried (Deed.Read path given) h = refl

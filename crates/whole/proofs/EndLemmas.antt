@@ -6,15 +6,15 @@ use Rattle.std.proofs.lemmas.List.Concat.{flat_map-append}
 use Rattle.ed_session.specs.KeptAnswers.{Files}
 use Rattle.ed_session.specs.MemFiles.{file_at}
 use Rattle.rehearsal.specs.Rehearsals.{files_at_end, written}
-use Rattle.whole.specs.Deeds.{Deed, NothingPut, discarded_path, discarded_paths, put_path, put_paths, ready_path, ready_paths, run_log, tried_path, tried_paths}
+use Rattle.whole.specs.Deeds.{Deed, NothingPut, holds_back, discarded_path, discarded_paths, put_path, put_paths, ready_path, readying_path, run_log, tried_path, tried_paths}
 use Rattle.whole.specs.Paths.{each_once, is_in, write_paths, written_paths}
 use Rattle.whole.specs.LeftFiles.{LeavesAsRun, OldOrNew, left_files, with_file}
-use Rattle.whole.specs.Endings.{AllDiscarded, AllReadyFirst, EachPutOnce, EndsSo, IsPlace, StopsAt}
+use Rattle.whole.specs.Endings.{AllDiscarded, AllReadyFirst, EachPutOnce, EndsSo, IsPlace, IsUnreadyAt, StopsAt}
 use Rattle.whole.specs.Insides.{discard_deeds, last_deeds, put_deeds, ready_deeds}
 use Rattle.whole.specs.declared.outcome.Outcome.{Outcome}
 use Rattle.whole.specs.declared.outcome.Outcome.TheVariants as outcome
 use Rattle.whole.proofs.PathLemmas.{at-true, found-written, in-each_once}
-use Rattle.whole.proofs.DeedLemmas.{held-discarded, held-put, held-ready, held-tried, last-asked, map-each, none-discarded, none-held, none-put, none-ready, not-so, of-parts, one-more, same-asked}
+use Rattle.whole.proofs.DeedLemmas.{held-discarded, held-put, held-ready, held-readying, held-tried, last-asked, map-each, none-discarded, none-held, none-put, none-ready, not-so, of-parts, one-more, same-asked}
 use Rattle.whole.proofs.FileLemmas.{all-moments, drafts-written, drafts_left, end-files, held-first, ready-first, run-none, run-some, unput-same}
 
 -- the paths that were written, after the end of the run
@@ -48,13 +48,13 @@ discarded-of deeds o ps discarded unput e =
     of-parts discarded_path deeds o ps [] [] [] discarded (none-held discarded_path held-discarded deeds unput)
     (none-ready discarded_path (λ p done. refl) o ps) (none-put discarded_path (λ p done. refl) o ps) e
 
-ready-of : (deeds : List Deed) (o : Outcome) (ps ready : List (List ℕ)) → NothingPut deeds →
-    flat_map ready_path (ready_deeds o ps) ≡ ready →
-    ready_paths (deeds ++ last_deeds o ps) ≡ ready
-ready-of deeds o ps ready unput e =
-    of-parts ready_path deeds o ps [] ready [] [] (none-held ready_path held-ready deeds unput) e (none-put ready_path (λ p done. refl) o
-    ps)
-    (none-discarded ready_path (λ p. refl) o ps) ∙ append-nil ready
+ready-of : (f : Deed → List (List ℕ)) (deeds : List Deed) (o : Outcome) (ps ready : List (List ℕ)) →
+    ((deed : Deed) → holds_back deed ≡ true → f deed ≡ []) → ((p : List ℕ) (done : Bool) → f (Deed.Put p done) ≡ []) →
+    ((p : List ℕ) → f (Deed.Discard p) ≡ []) → NothingPut deeds → flat_map f (ready_deeds o ps) ≡ ready →
+    flat_map f (deeds ++ last_deeds o ps) ≡ ready
+ready-of f deeds o ps ready held put discarded unput e =
+    of-parts f deeds o ps [] ready [] [] (none-held f held deeds unput) e (none-put f put o ps) (none-discarded f discarded o ps)
+    ∙ append-nil ready
 
 -- the moment when all drafts were ready
 readied : (deeds : List Deed) (o : Outcome) (ps : List (List ℕ)) → NothingPut deeds → ps ≡ written_paths deeds →
@@ -191,17 +191,30 @@ stopped deeds ps k unput is below =
           ∙ ap (drop k) now;
     }
 
+unready : (deeds : List Deed) (ps : List (List ℕ)) (k : ℕ) → NothingPut deeds → ps ≡ written_paths deeds → k < length ps →
+    IsUnreadyAt k (deeds ++ last_deeds (outcome.Unready k) ps)
+unready deeds ps k unput is below =
+    let o = outcome.Unready k in
+    let now = now-written deeds o ps is in
+    let some : List Deed = map (λ p. Deed.Ready p true) (take k ps) in
+    let last : Deed = Deed.Ready (get_or ps k []) false in
+    let ready_some = map-each ready_path (λ p. Deed.Ready p true) (λ p. refl) (take k ps) in
+    let asked_some = map-each readying_path (λ p. Deed.Ready p true) (λ p. refl) (take k ps) in
+    let ready = one-more ready_path some last (take k ps) [] ready_some refl in
+    let asked = one-more readying_path some last (take k ps) (get_or ps k [] ∷ []) asked_some refl in
+    record {
+      discarded = all-gone deeds o ps unput is refl refl;
+      ready = ready-of ready_path deeds o ps _ held-ready (λ p done. refl) (λ p. refl) unput ready ∙ append-nil (take k ps)
+          ∙ ap (take k) now;
+      asked_once = ready-of readying_path deeds o ps _ held-readying (λ p done. refl) (λ p. refl) unput asked
+          ∙ sym (take_more ps k [] below) ∙ ap (take (k + 1)) now;
+    }
+
 -- a run has ended so
 pub ends : (deeds : List Deed) (o : Outcome) (ps : List (List ℕ)) → NothingPut deeds → ps ≡ written_paths deeds →
     IsPlace o (length ps) →
     EndsSo o (deeds ++ last_deeds o ps)
 ends deeds outcome.Put ps unput is within = all-put deeds ps unput is
 ends deeds outcome.Discarded ps unput is within = all-gone deeds outcome.Discarded ps unput is refl refl
-ends deeds (outcome.Unready k) ps unput is within =
-    let o = outcome.Unready k in
-    let some = map-each ready_path (λ p. Deed.Ready p true) (λ p. refl) (take k ps) in
-    let ready = one-more ready_path (map (λ p. Deed.Ready p true) (take k ps)) (Deed.Ready (get_or ps k []) false) (take k ps) [] some refl in (
-      all-gone deeds o ps unput is refl refl,
-      ready-of deeds o ps _ unput ready ∙ append-nil (take k ps) ∙ ap (take k) (now-written deeds o ps is),
-    )
+ends deeds (outcome.Unready k) ps unput is within = unready deeds ps k unput is within
 ends deeds (outcome.Stopped k) ps unput is within = stopped deeds ps k unput is within

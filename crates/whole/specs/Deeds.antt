@@ -54,6 +54,11 @@ abbrev pub ready_path : Deed → List (List ℕ)
 ready_path (Deed.Ready path true) = path ∷ []
 ready_path other = []
 
+-- the path whose draft a call was to make ready, if it was
+abbrev pub readying_path : Deed → List (List ℕ)
+readying_path (Deed.Ready path done) = path ∷ []
+readying_path other = []
+
 -- the path at which a call was to put a draft, if it was
 abbrev pub tried_path : Deed → List (List ℕ)
 tried_path (Deed.Put path done) = path ∷ []
@@ -72,6 +77,10 @@ discarded_path other = []
 -- the paths whose drafts were made ready, in order
 abbrev pub ready_paths : List Deed → List (List ℕ)
 ready_paths deeds = flat_map ready_path deeds
+
+-- the paths whose drafts were to be made ready, in order
+abbrev pub readying_paths : List Deed → List (List ℕ)
+readying_paths deeds = flat_map readying_path deeds
 
 -- the paths at which drafts were to be put, in order
 abbrev pub tried_paths : List Deed → List (List ℕ)

@@ -1,6 +1,6 @@
 -- How a run ends whose writes were held back: what becomes of its drafts (our choice: all are put, or none as far as that can be).
 use Rattle.std.specs.Prelude.{ℕ, ◌≡◌, ◌+◌, ◌<◌, List, [], ◌++◌, take, drop}
-use Rattle.whole.specs.Deeds.{Deed, ready_paths, tried_paths, put_paths, discarded_paths}
+use Rattle.whole.specs.Deeds.{Deed, ready_paths, readying_paths, tried_paths, put_paths, discarded_paths}
 use Rattle.whole.specs.Paths.{written_paths}
 use Rattle.whole.specs.LeftFiles.{LeavesAsRun, LeavesFiles}
 use Rattle.whole.specs.declared.outcome.Outcome.{Outcome}
@@ -28,6 +28,12 @@ pub record AllDiscarded (deeds : List Deed) : Type 0 where
   pub unput : tried_paths deeds ≡ []
   pub same_files : LeavesFiles deeds
 
+-- The drafts of the paths before this place were made ready, the one there was to be and couldn't, and all were discarded.
+pub record IsUnreadyAt (place : ℕ) (deeds : List Deed) : Type 0 where
+  pub discarded : AllDiscarded deeds
+  pub ready : ready_paths deeds ≡ take place (written_paths deeds)
+  pub asked_once : readying_paths deeds ≡ take (place + 1) (written_paths deeds)
+
 -- The drafts of all paths were made ready; those before this place were put, the one there couldn't be, and it and those after it were
 -- discarded.
 pub record StopsAt (place : ℕ) (deeds : List Deed) : Type 0 where
@@ -40,7 +46,7 @@ pub record StopsAt (place : ℕ) (deeds : List Deed) : Type 0 where
 abbrev pub EndsSo : Outcome → List Deed → Type 0
 EndsSo outcome.Put deeds = EachPutOnce deeds
 EndsSo outcome.Discarded deeds = AllDiscarded deeds
-EndsSo (outcome.Unready place) deeds = AllDiscarded deeds × (ready_paths deeds ≡ take place (written_paths deeds))
+EndsSo (outcome.Unready place) deeds = IsUnreadyAt place deeds
 EndsSo (outcome.Stopped place) deeds = StopsAt place deeds
 
 -- the place that an ending tells, if it tells one, is one of so many
