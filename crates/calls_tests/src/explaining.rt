@@ -6,6 +6,7 @@ use crate::vouching::{Bounds, set_of};
 use analyser::Start;
 use ed_base::Bytes;
 use ed_calls::{Aside, Starts, explain_certificate, explain_script};
+use hints::Given;
 use std::alloc::{AllocError, Global};
 use std::process::Abort;
 
@@ -73,8 +74,8 @@ const ONE_TO_THREE: Bounds = Bounds {
 const ADDING: &[u8] = b"/^port=/a\nhost=a\n.\n1d\nw\n";
 
 const ADDED: &[u8] = b"\
-1: 1 or more lines, at the last one, one matches ^port= | /^port=/a
-4: 2 or more lines, at line 2 or later, changed, one matches ^port= | 1d
+1: 1 or more lines, at the last one, one matches `^port=` | /^port=/a
+4: 2 or more lines, at line 2 or later, changed, one matches `^port=` | 1d
 5: 1 or more lines, at line 1, changed | w
 ";
 
@@ -129,6 +130,58 @@ fn lines_that_the_output_refuses_end_by_that(rt: HostRuntime) {
     let came = came.expect(&rt, "bounds");
     same(&rt, came.status, 3, ADDING);
     same(&rt, ADDED.starts_with(came.sink.taken()), true, ADDING);
+}
+
+/// What is told of a script over the start at the file `F` that is found where nothing is given of its lines.
+struct Found {
+    script: &'static [u8],
+    output: &'static [u8],
+}
+
+// The lines that a script looks for, and one that it enters, go through with what they match.
+const MATCHED: &[u8] = b"\
+1: 2 or more lines, at the last one | /A/;/B/p
+2: 2 or more lines, at line 2 or later, which matches `B` | Q
+";
+
+const ENTERED: &[u8] = b"\
+1: 1 or more lines, at the last one | $a
+4: 2 or more lines, at the last one, which matches `b`, changed | 1d
+5: 1 or more lines, at line 1, the last one matches `b`, changed | /b/p
+6: 1 or more lines, at a line that matches `b`, the last one matches `b`, changed | Q
+";
+
+#[rattlefmt::skip]
+static FOUND: [Found; 2] = [
+    Found { script: b"/A/;/B/p\nQ\n", output: MATCHED },
+    Found { script: b"$a\nb\n.\n1d\n/b/p\nQ\n", output: ENTERED },
+];
+
+fn explained_as_found(alloc: Global, row: &Found) -> Result<Came, AllocError> {
+    let mut sink = output(alloc, 0)?;
+    let mut aside = Aside::new(alloc, row.script, b"");
+    let starts = Starts::Widest(Given {
+        path: Some(Bytes::from_slice(alloc, b"F")?),
+        min: None,
+        max: None,
+        has: None,
+        landmarks: None,
+    });
+    let status = explain_script(alloc, row.script, starts, &mut sink, &mut aside);
+    Ok(Came { status, sink })
+}
+
+fn check_found(rt: &impl Abort, alloc: Global, row: &Found) {
+    let came = explained_as_found(alloc, row).expect(rt, "memory");
+    same(rt, came.status, 0, row.script);
+    same(rt, came.sink.taken(), row.output, row.script);
+}
+
+#[test]
+fn what_single_lines_match_is_told(rt: HostRuntime) {
+    for row in &FOUND {
+        check_found(&rt, rt.alloc(), row);
+    }
 }
 
 struct By {

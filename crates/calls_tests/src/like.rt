@@ -48,8 +48,14 @@ const DELETED: Told = Told {
     begins: b"ed-certificate 1\npath =F\nstart 1 any\nnote\n",
 };
 
+/// The lines from one that begins with `a` to one below it that begins with `c`.
+const BLOCK: &[u8] = b"/^a/;/^c/d\nw\nq\n";
+
+/// A line by its number, which has to match.
+const SECOND: &[u8] = b"2s/b/x/\nw\nq\n";
+
 #[rattlefmt::skip]
-static TOLD: [Told; 8] = [
+static TOLD: [Told; 14] = [
     DELETED,
     Told { script: b"2d\nw\nq\n", begins: b"ed-certificate 1\npath =F\nstart 3 3\nnote\n", ..DELETED },
     Told { script: b"2d\nw\nq\n", patterns: true, begins: b"ed-certificate 2\npath =F\nstart 3 3\nhas\n", ..DELETED },
@@ -58,6 +64,14 @@ static TOLD: [Told; 8] = [
     Told { script: b"/^x/d\nw\nq\n", status: 1, begins: b"cannot: command 1: no match\n", ..DELETED },
     Told { script: b"5d\nw\nq\n", status: 1, begins: b"cannot: command 1: invalid address\n", ..DELETED },
     Told { file: b"", status: 1, begins: b"cannot: command 1: invalid address\n", ..DELETED },
+    // Landmarks, where nothing else is enough and the file has them.
+    Told { script: BLOCK, begins: b"ed-certificate 3\npath =F\nstart 0 any\nhas\nat =/^a/;%20/^c/\nnote\n", ..DELETED },
+    Told { script: BLOCK, file: b"c\na\nb\n", status: 1, begins: b"cannot: command 1: invalid address\n", ..DELETED },
+    Told { script: BLOCK, file: b"b\nc\n", status: 1, begins: b"cannot: command 1: no match\n", ..DELETED },
+    // Lines by their numbers are still those of a file of just so many.
+    Told { script: SECOND, begins: b"ed-certificate 3\npath =F\nstart 3 3\nhas\nat =2%20&%20/b/\nnote\n", ..DELETED },
+    Told { script: SECOND, file: b"b\na\n", status: 1, begins: b"cannot: command 1: no match\n", ..DELETED },
+    Told { script: b"2c\n..\n.\ns/.//\nw\nq\n", begins: b"ed-certificate 3\npath =F\nstart 3 3\nhas\nat\nnote\n", ..DELETED },
 ];
 
 /// What is told of the row's script; None where its file has too many lines.
@@ -106,11 +120,14 @@ const DONE: Row = Row {
 };
 
 #[rattlefmt::skip]
-static ROWS: [Row; 4] = [
+static ROWS: [Row; 7] = [
     DONE,
     Row { script: b"/^b/d\nw\nq\n", file: b"b\n", ..DONE },
     Row { file: b"x\ny\n", status: 4, output: OUTSIDE, after: ABC, ..DONE },
     Row { script: b"/^b/d\nw\nq\n", status: 1, output: b"cannot: command 1: no match\n", after: ABC, ..DONE },
+    Row { script: BLOCK, file: b"x\na\nc\n", after: Some(b""), ..DONE },
+    Row { script: SECOND, file: b"b\nb\nb\n", after: Some(b"a\nx\nc\n"), ..DONE },
+    Row { script: SECOND, file: b"b\nb\n", status: 4, output: OUTSIDE, after: ABC, ..DONE },
 ];
 
 /// What comes of the row over these files; None where its file has too many lines.

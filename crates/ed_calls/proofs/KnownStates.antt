@@ -1,5 +1,9 @@
 -- What is known of a state is true of each editor that it stands for.
-use Rattle.std.proofs.Common.{◌≡◌, ◌≤◌, ◌<◌, ℕ, zero, suc, ℤ, pos, negsuc, ◌-ℤ◌, Bool, true, false, Option, Some, None, length, refl, subst, arith}
+use Rattle.std.proofs.Common.{◌≡◌, ◌∙◌, ◌≤◌, ◌<◌, ◌==◌, ◌||◌, ℕ, zero, suc, ℤ, pos, negsuc, ◌-ℤ◌, Bool, true, false, List, Option, Some, None, length, get_or, refl, sym, ap, subst, arith}
+use Rattle.std.specs.Prelude.{All, if◌then◌else◌}
+use Rattle.std.specs.List.{filter}
+use Rattle.std.proofs.lemmas.Bool.{eqb-true}
+use Rattle.std.proofs.lemmas.List.Elements.{All-filter, filter_passes}
 use Rattle.std.proofs.lemmas.Int.{ints}
 use Rattle.zones.specs.Name as name
 use Rattle.zones.specs.Bound.{Obeys, negative_of}
@@ -8,8 +12,10 @@ use Rattle.zones.specs.Known.{known, is_within}
 use Rattle.ed_syntax.specs.meaning.States as editor
 use Rattle.ed_rules.specs.declared.state.State.{State}
 use Rattle.ed_rules.specs.LineBounds.{IsWithin, IsAtMost}
-use Rattle.ed_rules.specs.StandsFor.{StandsFor, allows_change}
-use Rattle.ed_calls.specs.Known.{IsTrueOf, TellsChange, bounds_of, change_of, known_of, least_of, most_of}
+use Rattle.ed_rules.specs.StandsFor.{Reads, StandsFor, allows_change}
+use Rattle.ed_rules.specs.facts.Facts.{LineFact, LineFactHolds, IsTold}
+use Rattle.ed_syntax.specs.meaning.Values.{matches_line}
+use Rattle.ed_calls.specs.Known.{IsFactOf, IsTrueOf, TellsChange, bounds_of, change_of, is_shown, known_of, least_of, line_told, most_of}
 
 at-least : (n : ℕ) (b : Option ℤ) → Obeys (pos 0 -ℤ pos n) b → least_of (negative_of b) ≤ n
 at-least n None h = omega arith
@@ -56,6 +62,25 @@ changes false true false is = refl
 changes false false true is = absurd (let e = is in cc)
 changes false false false is = refl
 
+-- the number of a line that is told of
+numbered : (marks : List Bool) (number : Numbers) (e : editor.State) (x : ℕ) (is_current : Bool) → Reads marks e.lines e.current number →
+    (x == name.current_line) ≡ is_current → (is_current || x == name.last_line) ≡ true → number x ≡ pos (if is_current then e.current else length e.lines)
+numbered marks number e x true reads is shown = ap number (eqb-true x name.current_line is) ∙ reads.current_is
+numbered marks number e x false reads is shown = ap number (eqb-true x name.last_line shown) ∙ reads.last_is
+
+-- a fact of such a line is true of it
+fact-of : (marks : List Bool) (number : Numbers) (e : editor.State) (f : LineFact) → Reads marks e.lines e.current number →
+    LineFactHolds number e.lines f → is_shown f ≡ true → IsFactOf e f
+fact-of marks number e f reads h shown =
+    subst (λ (m : ℤ). IsTold (length e.lines) (matches_line f.pattern e.lines) m f.matches)
+    (numbered marks number e f.name (f.name == name.current_line) reads refl shown) h.holds
+
+facts-of : (marks : List Bool) (number : Numbers) (e : editor.State) (facts : List LineFact) → Reads marks e.lines e.current number →
+    All (LineFactHolds number e.lines) facts → All (IsFactOf e) (filter is_shown facts)
+facts-of marks number e facts reads h k d within =
+    fact-of marks number e (get_or (filter is_shown facts) k d) reads
+    (All-filter is_shown (LineFactHolds number e.lines) facts h k d within) (filter_passes is_shown facts k d within)
+
 pub known-is-true : (s : State) (e : editor.State) → StandsFor s e → IsTrueOf (known_of s) e
 known-is-true s e h =
     let by = h.stands.buffer in
@@ -65,4 +90,5 @@ known-is-true s e h =
       last = λ is. last s.zone h.numbers (length e.lines) e.current by.holds by.reads.last_is by.reads.current_is by.inside is;
       change = changes s.changed.yes s.changed.no e.changed h.stands.changed;
       matched = h.matches.0;
+      told = facts-of s.marks h.numbers e s.facts.lines by.reads h.facts.of_lines;
     }

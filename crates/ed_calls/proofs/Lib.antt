@@ -8,6 +8,7 @@ mod Judgements
 mod KnownStates
 mod LandmarkedStarts
 mod LetterCounts
+mod LikeStarts
 mod Nowhere
 mod Sayings
 mod StartTested

@@ -7,9 +7,10 @@ use Rattle.ed_syntax.specs.meaning.Values.{matches}
 use Rattle.ed_rules.specs.LineBounds.{IsWithin}
 use Rattle.cert_check.specs.Certificates.{Certificate}
 use Rattle.cert_check.specs.checker.Beginning.{chains_of}
+use Rattle.cert_check.specs.checker.Opening.{Match}
 use Rattle.cert_check.specs.checker.Sound.{IsAllowed, HaveLandmarks, stated}
 use Rattle.ed_calls.specs.Run.{LiesOutside}
-use Rattle.ed_calls.specs.StartTest.{unmatched_of}
+use Rattle.ed_calls.specs.StartTest.{first_unmatched, unmatched_of}
 
 module _ {X : Type 0} (test : X → Bool) where
   -- where none is the first to fail a test, all pass it
@@ -33,6 +34,13 @@ pub none_stated : (lines : Option (List (List ℕ))) → None ≡ unmatched_of [
 none_stated None = refl
 none_stated (Some lines) = refl
 
+-- each of these patterns is matched just where none is the first that isn't
+pub each_matched : (patterns lines : List (List ℕ)) → None ≡ first_unmatched patterns lines → Match patterns lines
+each_matched patterns lines none = all_pass (λ t. list_any (matches t) lines) patterns (sym none)
+
+pub one_unmatched : (patterns lines : List (List ℕ)) (text : List ℕ) → Some text ≡ first_unmatched patterns lines → Match patterns lines → ⊥
+one_unmatched patterns lines text found = one_fails (λ t. list_any (matches t) lines) patterns text (sym found)
+
 -- a start of another number of lines
 pub outside_by_size : (c : Certificate) (lines : Option (List (List ℕ))) → IsSomeAnd lines (λ l. IsWithin c.min c.max (length l) → ⊥) → LiesOutside c lines
 outside_by_size c None other = other
@@ -41,7 +49,7 @@ outside_by_size c (Some lines) other = λ allowed. other allowed.0
 -- one without a line for a pattern
 pub outside_by_pattern : (c : Certificate) (lines : Option (List (List ℕ))) (text : List ℕ) → Some text ≡ unmatched_of (stated c) lines → LiesOutside c lines
 outside_by_pattern c None text found = cc
-outside_by_pattern c (Some lines) text found = λ allowed. one_fails (λ t. list_any (matches t) lines) (stated c) text (sym found) allowed.1
+outside_by_pattern c (Some lines) text found = λ allowed. one_unmatched (stated c) lines text found allowed.1
 
 -- one without the landmarks of a chain
 outside_by_landmark : (c : Certificate) (lines : Option (List (List ℕ))) → IsSomeAnd lines (λ l. HaveLandmarks l (chains_of c) → ⊥) → LiesOutside c lines
@@ -58,7 +66,7 @@ outside_where_missed c lines (Err e) missed = tt
 inside_by_all : (c : Certificate) (lines : Option (List (List ℕ))) → IfSome lines (λ l. IsWithin c.min c.max (length l)) →
     None ≡ unmatched_of (stated c) lines → IfSome lines (λ l. HaveLandmarks l (chains_of c)) → IfSome lines (IsAllowed c)
 inside_by_all c None within none placed = tt
-inside_by_all c (Some lines) within none placed = (within, all_pass (λ t. list_any (matches t) lines) (stated c) (sym none), placed)
+inside_by_all c (Some lines) within none placed = (within, each_matched (stated c) lines none, placed)
 
 pub inside_where_placed : {E : Type 0} (c : Certificate) (lines : Option (List (List ℕ))) (r : Result Bool E) →
     IfSome lines (λ l. IsWithin c.min c.max (length l)) → None ≡ unmatched_of (stated c) lines →

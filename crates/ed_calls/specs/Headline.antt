@@ -1,7 +1,8 @@
 -- The headline. If the checker accepts a script with its certificate, then for every start file whose number of lines lies in the
--- certificate's bounds and that has a matching line for each pattern stated at its start, and whatever other files hold, the editor
--- runs the script to its end with no fault but want of memory, a refused file or a refused output, leaves a number of lines within the
--- certified final bounds, and asks to write only listed paths. A certificate of version one states no pattern.
+-- certificate's bounds and that has a matching line for each pattern stated at its start and that has the landmarks stated at its start, and
+-- whatever other files hold, the editor runs the script to its end with no fault but want of memory, a refused file or a refused output, leaves
+-- a number of lines within the certified final bounds, and asks to write only listed paths. A certificate of version one states no pattern, and
+-- one of version one or two no landmark.
 use Rattle.std.specs.Prelude.{◌≡◌, ◌⊎◌, ℕ, List, [], Option, IfSome, IsTrue, All, Result, Ok, Err}
 use Rattle.std.specs.List.{list_all}
 use Rattle.ed_base.specs.declared.fault.Fault.{Fault}

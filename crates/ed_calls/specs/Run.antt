@@ -31,8 +31,8 @@ abbrev pub reading : Option (List ℕ) → Answer → Log
 reading None given = []
 reading (Some path) given = (request.Read path, given) ∷ []
 
--- the lines of a start, where they are known, aren't such as the certificate allows: they are too few or too many, or a pattern that it
--- states is matched by none of them
+-- the lines of a start, where they are known, aren't such as the certificate allows: they are too few or too many, a pattern that it states is
+-- matched by none of them, or they haven't the landmarks that it states
 abbrev pub LiesOutside : Certificate → Option (List (List ℕ)) → Type 0
 LiesOutside c None = ⊥
 LiesOutside c (Some lines) = IsAllowed c lines → ⊥

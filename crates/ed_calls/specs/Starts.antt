@@ -1,13 +1,18 @@
 -- The start that a script is judged over: the one that is given, or one that is found from what is given of it or from a file (our own).
 use Rattle.std.specs.Prelude.{◌≡◌, ◌≤◌, ◌⊎◌, ℕ, List, [], Option, Some, IfSome, unwrap_or}
+use Rattle.ed_base.specs.Lines.{lines_of}
+use Rattle.ed_syntax.specs.Commands.{Script}
 use Rattle.ed_syntax.specs.reading.Reading.{script_of}
 use Rattle.landmarks.specs.ChainValues.{ChainValue}
 use Rattle.ed_rules.specs.LineBounds.{IsAtMost, most_lines}
+use Rattle.cert_check.specs.checker.Beginning.{landmarks_of}
+use Rattle.cert_check.specs.checker.Sound.{HaveLandmarks}
 use Rattle.analyser.specs.declared.analysis.Start.{Start}
+use Rattle.hints.specs.declared.like.Like.{Like}
 use Rattle.hints.specs.Passing.{IsVouched}
 use Rattle.hints.specs.Widest.{IsWidest, fullest}
 use Rattle.hints.specs.Landmarks.{IsLandmarked}
-use Rattle.hints.specs.Like.{IsLike, fullest_like, lines_in}
+use Rattle.hints.specs.Like.{Fits, IsLike, fullest_like, given_like, lines_in}
 use Rattle.ed_calls.specs.declared.starts.Starts.{Starts}
 use Rattle.ed_calls.specs.declared.starts.Starts.TheVariants as starts
 
@@ -41,10 +46,20 @@ AreAllowed (starts.Given start) = IsPartOfStart (Some start.min) start.max
 AreAllowed (starts.Widest given) = IsPartOfStart given.min given.max
 AreAllowed (starts.Like like) = lines_in like ≤ most_lines
 
+-- These lines are those of a file that a start allows: there are as many as it may have, each pattern that it states is matched by one, and the
+-- landmarks that it states are in them.
+abbrev pub AllowsFile : Start → (lines : List (List ℕ)) → Type 0
+AllowsFile start lines = Fits start lines × HaveLandmarks lines (landmarks_of (unwrap_or start.landmarks []))
+
+-- A start is one with landmarks that is found of what the file gives of it, each of which is needed, and the file is one that it allows.
+pub record IsLandmarkedLike (script : Script) (like : Like) (start : Start) : Type 0 where
+  pub landmarked : IsLandmarked script (given_like script like) start
+  pub allows : AllowsFile start (lines_of like.file)
+
 -- A script is judged over the start that is given. Where it is to be found, it is the widest one of what is given that is vouched for. Where
 -- none is, not even the fullest, it is one with landmarks beside those that are given, each of which is needed, or the fullest, if none was
--- found. Where it is proposed from a file, the file is one that it allows, too; none is proposed just where the script isn't vouched for with as
--- many lines as the file has and all that may be stated of them.
+-- found. Where it is proposed from a file, the file is one that it allows, too; where the script isn't vouched for with as many lines as the file
+-- has and all that may be stated of them, it is one with landmarks that the file has, or just that fullest one, if none was found.
 abbrev pub IsJudgedFor : (script : List ℕ) → Starts → Start → Type 0
 IsJudgedFor script (starts.Given start) judged = judged ≡ start
 IsJudgedFor script (starts.Widest given) judged =
@@ -53,4 +68,5 @@ IsJudgedFor script (starts.Widest given) judged =
     × (IsVouched (script_of script) (fullest (script_of script) given) → ⊥)
 IsJudgedFor script (starts.Like like) judged =
     IsLike (script_of script) like judged
-    ⊎ (judged ≡ fullest_like (script_of script) like) × (IsVouched (script_of script) (fullest_like (script_of script) like) → ⊥)
+    ⊎ (IsLandmarkedLike (script_of script) like judged ⊎ (judged ≡ fullest_like (script_of script) like))
+    × (IsVouched (script_of script) (fullest_like (script_of script) like) → ⊥)

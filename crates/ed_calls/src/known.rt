@@ -2,9 +2,9 @@
 ghost use Rattle.std.specs.Prelude.{◌≡◌, IfOk};
 ghost use Rattle.ed_syntax.specs.meaning.States as editor;
 ghost use Rattle.ed_rules.specs.StandsFor.{StandsFor};
-ghost use Rattle.ed_calls.specs.Known.{IsTrueOf, bounds_of, change_of, known_of, least_of, most_of};
+ghost use Rattle.ed_calls.specs.Known.{IsTrueOf, bounds_of, change_of, is_shown, known_of, least_of, most_of, shown_of};
 
-use ed_rules::{Changed, KeptState, LineBounds, Texts};
+use ed_rules::{Changed, KeptState, KnownLine, LineBounds, LineFacts, Texts};
 use std::alloc::AllocError;
 use zones::{Name, Zone};
 
@@ -31,12 +31,14 @@ pub struct Known {
     pub change: Change,
     /// The patterns that some line surely matches.
     pub has: Texts,
+    /// What is known of the current line and of the last one, each by its name.
+    pub told: LineFacts,
 }
 
 impl Known {
     /// What a state says of these.
     pub fn of(state: &KeptState) -> Result<Known, AllocError>
-        // Each bound is the one that the zone says.
+        // Each bound is the one that the zone says, and each fact of a line one that the state has.
         ensures exact { IfOk result (λ known. known ≡ known_of state.now) }
 
         // It is true of each editor that the state stands for.
@@ -57,7 +59,32 @@ fn said_by(state: &KeptState) -> Result<Known, AllocError>
         is_last: zone.is_known(Name::LAST_LINE, Name::CURRENT_LINE, 0),
         change: change_of(state.changed()),
         has: state.matches().has.try_copy()?,
+        told: shown_of(state.facts())?,
     })
+}
+
+/// What is known of the lines that a person is told of.
+fn shown_of(facts: &LineFacts) -> Result<LineFacts, AllocError>
+    ensures value { IfOk result (λ shown. shown ≡ shown_of facts.now) }
+{
+    let mut shown = facts.try_copy()?;
+    keep_shown(&mut shown);
+    Ok(shown)
+}
+
+/// Keeps of some facts those that a person is told.
+fn keep_shown(facts: &mut LineFacts)
+    ensures value { facts.new ≡ shown_of facts.old }
+{
+    facts.lines.retain(|fact| is_shown(fact));
+    facts.clear.clear();
+}
+
+/// Whether a fact is of the current line or of the last one.
+fn is_shown(fact: &KnownLine) -> bool
+    ensures value { result ≡ is_shown fact.now }
+{
+    fact.name == Name::CURRENT_LINE || fact.name == Name::LAST_LINE
 }
 
 /// The bounds of a number.

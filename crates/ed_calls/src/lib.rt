@@ -2,6 +2,7 @@
 //! start is tested.
 #![tactic(auto)]
 
+mod allowing;
 mod checking;
 mod editing;
 mod explaining;

@@ -99,15 +99,15 @@ pub(crate) fn run_by<O: Outside, W: Sink>(
 pub enum Ran {
     /// The checker refuses the certificate, at this place. Nothing was asked or written.
     Refused(Place),
-    /// The start has another path than the certificate's, a number of lines that it doesn't allow, or no line that matches a pattern which
-    /// it states. Nothing was written.
+    /// The start has another path than the certificate's, a number of lines that it doesn't allow, no line that matches a pattern which it
+    /// states, or not the landmarks that it states. Nothing was written.
     StartOutside,
     /// The script was run to its end.
     Done(Ending),
 }
 
 /// Runs a script over its start file if the checker accepts its certificate, and the file is the certificate's, has as many lines as
-/// that allows, and a matching line for each pattern that it states.
+/// that allows, a matching line for each pattern that it states, and its landmarks.
 ///
 /// The file is read once, and the run edits the bytes that were read; with no path nothing is read, and the buffer is empty. A
 /// missing file has no lines. One that is refused goes on to the run, which ends by `Fault::File`. Nothing is written before

@@ -1,17 +1,21 @@
 //! The start that a script is judged over.
-ghost use Rattle.std.specs.Prelude.{◌≡◌, ◌≤◌, [], IfOk, unwrap_or};
+ghost use Rattle.std.specs.Prelude.{◌≡◌, ◌≤◌, [], IfOk, IfSome, unwrap_or};
 ghost use Rattle.ed_rules.specs.LineBounds.{most_lines};
+ghost use Rattle.hints.specs.Like as meaning;
 ghost use Rattle.hints.specs.Like.{lines_in};
 ghost use Rattle.ed_syntax.specs.reading.Reading.{script_of};
 ghost use Rattle.hints.specs.Passing.{IsAllowed, IsVouched};
 ghost use Rattle.hints.specs.Widest.{fullest};
-ghost use Rattle.ed_calls.specs.Starts.{AreAllowed, IsJudgedFor, IsPartOfStart, chains_given, path_of, with_landmarks};
+ghost use Rattle.ed_calls.specs.Starts.{AreAllowed, IsJudgedFor, IsLandmarkedLike, IsPartOfStart, chains_given, path_of, with_landmarks};
 
+use crate::allowing::allows_file;
 use analyser::Start;
-use ed_base::Bytes;
+use ed_base::{Bytes, count_lines};
 use ed_rules::Texts;
+use ed_syntax::read_script;
 use hints::{
-    Given, Like, copy_of, fullest_like, fullest_start, landmark_start, like_start, widest_start,
+    Given, Like, copy_of, fullest_like, fullest_start, given_like, landmark_start, like_start,
+    widest_start,
 };
 use landmarks::{LandmarkChain, LandmarkChains};
 use std::alloc::{AllocError, Global};
@@ -24,7 +28,8 @@ pub enum Starts {
     /// The widest one of what is given of it, which is found (`hints::widest_start`), or one with landmarks beside that, where there is no other
     /// (`hints::landmark_start`).
     Widest(Given),
-    /// The widest one that a file is one of, which is proposed (`hints::like_start`).
+    /// The widest one that a file is one of, which is proposed (`hints::like_start`), or one with landmarks that the file has, where there is no
+    /// other.
     Like(Like),
 }
 
@@ -108,7 +113,7 @@ impl Starts {
 }
 
 /// The chains of landmarks, where some are given.
-fn chains_in(landmarks: &Option<LandmarkChains>) -> &[LandmarkChain]
+pub(crate) fn chains_in(landmarks: &Option<LandmarkChains>) -> &[LandmarkChain]
     ensures value { result.now ≡ unwrap_or landmarks.now [] }
 {
     match landmarks {
@@ -210,7 +215,7 @@ fn landmarked_of(alloc: Global, script: &[u8], given: &Given) -> Result<Start, A
     }
 }
 
-/// The start that is proposed for a script from a file, or else the fullest one.
+/// The start that is proposed for a script from a file, or else one with landmarks that the file has, or else the fullest one.
 fn proposed_from(alloc: Global, script: &[u8], like: &Like) -> Result<Start, AllocError>
     requires few { lines_in like.now ≤ most_lines }
     ensures judged { IfOk result (IsJudgedFor script.now (Starts.Like like.now)) }
@@ -219,6 +224,46 @@ fn proposed_from(alloc: Global, script: &[u8], like: &Like) -> Result<Start, All
     let found = like_start(alloc, script, like)?;
     match found {
         Some(start) => Ok(start),
+        None => landmarked_or_fullest(alloc, script, like),
+    }
+}
+
+/// The start with landmarks that is found for a script and that a file is one of, where none is proposed without; or else the fullest one.
+fn landmarked_or_fullest(alloc: Global, script: &[u8], like: &Like) -> Result<Start, AllocError>
+    requires few { lines_in like.now ≤ most_lines }
+    requires refused { ¬ IsVouched (script_of script.now) (meaning.fullest_like (script_of script.now) like.now) }
+    ensures judged { IfOk result (IsJudgedFor script.now (Starts.Like like.now)) }
+    ensures allowed { IfOk result IsAllowed }
+{
+    let found = landmarked_like(alloc, script, like)?;
+    match found {
+        Some(start) => Ok(start),
         None => fullest_like(alloc, script, like),
     }
+}
+
+/// The start with landmarks that is found for a script of what a file gives of it; none, too, where the file isn't one that it allows.
+fn landmarked_like(alloc: Global, script: &[u8], like: &Like) -> Result<Option<Start>, AllocError>
+    requires few { lines_in like.now ≤ most_lines }
+    ensures landmarked { IfOk result (λ found. IfSome found (IsLandmarkedLike (script_of script.now) like.now)) }
+{
+    let given = given_by(alloc, script, like)?;
+    let Some(start) = landmark_start(alloc, script, &given)? else {
+        return Ok(None);
+    };
+    if !allows_file(alloc, &start, like.file.as_slice())? {
+        return Ok(None);
+    }
+    Ok(Some(start))
+}
+
+/// What a file gives of the start of a script: its number of lines, where the script takes lines by their numbers.
+fn given_by(alloc: Global, script: &[u8], like: &Like) -> Result<Given, AllocError>
+    requires few { lines_in like.now ≤ most_lines }
+    ensures value { IfOk result (λ given. given ≡ meaning.given_like (script_of script.now) like.now) }
+    ensures part { IfOk result (λ given. IsPartOfStart given.min given.max) }
+{
+    let read = read_script(alloc, script)?;
+    let lines = count_lines(like.file.as_slice()) as u64;
+    given_like(alloc, &read, like, lines)
 }

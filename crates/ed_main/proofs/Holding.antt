@@ -1,11 +1,12 @@
 -- What holds of a run whose writes were held back until it had ended.
-use Rattle.std.proofs.Common.{◌≡◌, ◌≢◌, ◌<◌, ◌⊎◌, inl, inr, ℕ, zero, suc, List, [], Bool, true, false, nat_eq, sym, subst, ◌∙◌, true≢false, arith}
+use Rattle.std.proofs.Common.{◌≡◌, ◌≢◌, ◌<◌, ◌⊎◌, inl, inr, ℕ, zero, suc, List, [], length, Bool, true, false, nat_eq, sym, subst, ◌∙◌, true≢false, arith}
 use Rattle.std.proofs.lemmas.Bool.{ne_eqb}
 use Rattle.ed_session.specs.Drives.{Log, added}
 use Rattle.whole.specs.Deeds.{Deed, GoesOn, NothingPut, refusals, run_log}
+use Rattle.whole.specs.Paths.{written_paths}
 use Rattle.whole.specs.Reads.{ReadsHeld}
 use Rattle.whole.specs.LeftFiles.{OldOrNew}
-use Rattle.whole.specs.Endings.{EndsSo}
+use Rattle.whole.specs.Endings.{EndsSo, IsPlace}
 use Rattle.whole.specs.declared.outcome.Outcome.{Outcome}
 use Rattle.whole.specs.declared.outcome.Outcome.TheVariants as outcomes
 use Rattle.ed_calls.specs.HeldBack.{HeldBack, status_held}
@@ -22,10 +23,11 @@ not-zero : (n : ℕ) → n ≢ 0 → nat_eq n 0 ≡ false
 not-zero n other = ne_eqb n 0 other
 
 -- all that was asked of the files, it was asked in this run
-pub held_of : (old told : Log) (of_run deeds : List Deed) (o : Outcome) (ended : Bool) (ran status : ℕ) → old ≡ [] → told ≡ run_log of_run
-    → NothingPut of_run → ReadsHeld of_run → GoesOn of_run deeds → EndsSo o deeds → ended ≡ nat_eq ran 0
-    → (ended ≡ false → o ≡ outcomes.Discarded) → (o ≡ outcomes.Discarded → (ended ≡ false) ⊎ (0 < refusals (run_log of_run))) → OldOrNew deeds → status ≡ status_held ran o → HeldBack (added old told) ran status
-held_of old told of_run deeds o ended ran status none same unput reads goes_on ends well at_a_fault only_then moments is =
+pub held_of : (old told : Log) (of_run deeds : List Deed) (paths : List (List ℕ)) (o : Outcome) (ended : Bool) (ran status : ℕ) → old ≡ [] → told ≡ run_log of_run
+    → NothingPut of_run → ReadsHeld of_run → GoesOn of_run deeds → EndsSo o deeds → paths ≡ written_paths deeds → IsPlace o (length paths) → ended ≡ nat_eq ran 0
+    → (ended ≡ false → o ≡ outcomes.Discarded) → (0 < refusals (run_log of_run) → o ≡ outcomes.Discarded)
+    → (o ≡ outcomes.Discarded → (ended ≡ false) ⊎ (0 < refusals (run_log of_run))) → OldOrNew deeds → status ≡ status_held ran o → HeldBack (added old told) ran status
+held_of old told of_run deeds paths o ended ran status none same unput reads goes_on ends are within well at_a_fault at_a_refusal only_then moments is =
     subst (λ l. HeldBack (added l told) ran status) (sym none) (record {
       of_run = of_run;
       deeds = deeds;
@@ -35,7 +37,9 @@ held_of old told of_run deeds o ended ran status none same unput reads goes_on e
       reads = reads;
       goes_on = goes_on;
       ends = ends;
+      within = subst (λ these. IsPlace o (length these)) are within;
       at_a_fault = λ other. at_a_fault (well ∙ not-zero ran other);
+      at_a_refusal = λ some. at_a_refusal (subst (λ l. 0 < refusals l) same some);
       only_then = λ e. why (run_log of_run) told ended ran same well (only_then e);
       each_moment = moments;
       status_is = is;

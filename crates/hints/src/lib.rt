@@ -51,7 +51,7 @@ pub use advising::{hints, remarks};
 pub use given::Given;
 pub use hint::{Advice, Change, Hint, Remark};
 pub use landmarking::landmark_start;
-pub use like::{Like, fullest_like, is_by_numbers, like_start};
+pub use like::{Like, fullest_like, given_like, is_by_numbers, like_start};
 pub use passing::gets_past;
 pub use plain::plain_start;
 pub use refusing::{MOST_REFUSALS, Refusal, first_refusal, refusals};

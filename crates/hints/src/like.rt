@@ -138,7 +138,12 @@ fn given_within(
 }
 
 /// What is given of the start by a file with so many lines.
-fn given_like(alloc: Global, script: &Script, like: &Like, lines: u64) -> Result<Given, AllocError>
+pub fn given_like(
+    alloc: Global,
+    script: &Script,
+    like: &Like,
+    lines: u64,
+) -> Result<Given, AllocError>
     requires lines { lines ≡ lines_in like.now }
     ensures value { IfOk result (λ given. given ≡ meaning.given_like (script_value script.now) like.now) }
 {

@@ -143,5 +143,12 @@ fn never_text(alloc: Global, never: &Never) -> Result<String, AllocError> {
             let pattern = pattern.as_str();
             Ok(format!(in alloc; "can be no line: each line matches {pattern}")?)
         }
+        Never::RightBelow(pattern) => {
+            let pattern = quoted(alloc, pattern.as_slice())?;
+            let pattern = pattern.as_str();
+            Ok(format!(in alloc;
+                "can be no line: each line matches {pattern}, so it would be the line right below, against its gap"
+            )?)
+        }
     }
 }
