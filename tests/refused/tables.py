@@ -125,6 +125,11 @@ VOUCHED = [
     of_foo('a start that no file like this one has', b'/foo/p\n9d\nw\nq\n', '--like F', False),
     of_foo('a start that is not found', b'/foo/p\n3d\n/b/s/b/d/\nw\nq\n', '', False),
     of_foo('lines of three that a global left out', b'v/foo/?foo?p\nQ\n', '--min 0 --max any --patterns', False),
+    of_foo('a landmark', b'/^f/s/oo/x/\nw\nq\n', '--min 1 --max any --at /^f/&/oo/'),
+    of_foo('a block between landmarks', b'/foo/;/c/d\nw\nq\n', '--min 1 --max any --at /foo/;only/c/'),
+    of_foo('a landmark after a line that comes in, changed and brought back', b'/b/a\nx\n.\n/c/s//d/\nu\n/c/-1d\nw\nq\n',
+           '--min 1 --max any --at /foo/;/b/;only/c/'),
+    of_foo('a landmark that is gone', b'/b/d\n/b/p\nQ\n', '--min 1 --max any --at only/b/', False),
 ]
 
 
@@ -178,6 +183,8 @@ CHANGED = [
     Changed('a start that lies outside', '--min 9 --max any', [], 'run CERT -s F', 4),
     Changed('a start without the stated pattern', '--min 1 --max any --has z$', [], 'fits CERT F', 4),
     Changed('a start without the stated pattern', '--min 1 --max any --has z$', [], 'run CERT -s F', 4),
+    Changed('a start without the landmark', '--min 1 --max any --at /b/;/b/', [], 'fits CERT F', 4),
+    Changed('a start without the landmark', '--min 1 --max any --at /z/ --at 9', [], 'run CERT -s F', 4),
 ]
 
 

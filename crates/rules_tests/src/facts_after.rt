@@ -37,7 +37,12 @@ fn edge(byte: u8) -> u8
     }
 }
 
-fn add_line(state: &mut State, name: u8, pattern: &[u8], matches: bool) -> Result<(), AllocError> {
+pub(crate) fn add_line(
+    state: &mut State,
+    name: u8,
+    pattern: &[u8],
+    matches: bool,
+) -> Result<(), AllocError> {
     let pattern = Bytes::from_slice(*state.facts.lines.allocator(), pattern)?;
     state.facts.lines.push(KnownLine {
         name: at(name),
@@ -47,7 +52,12 @@ fn add_line(state: &mut State, name: u8, pattern: &[u8], matches: bool) -> Resul
     Ok(())
 }
 
-fn add_clear(state: &mut State, after: u8, before: u8, pattern: &[u8]) -> Result<(), AllocError> {
+pub(crate) fn add_clear(
+    state: &mut State,
+    after: u8,
+    before: u8,
+    pattern: &[u8],
+) -> Result<(), AllocError> {
     let pattern = Bytes::from_slice(*state.facts.clear.allocator(), pattern)?;
     state.facts.clear.push(ClearStretch {
         after: edge(after),
@@ -59,7 +69,7 @@ fn add_clear(state: &mut State, after: u8, before: u8, pattern: &[u8]) -> Result
 
 /// Four to nine lines, the last one current. `y` is the first line that matches A, and comes after line 1; `z` is the first one after it
 /// that matches B, and comes before the last line. No line after `y` matches A.
-fn begin(alloc: Global) -> Result<State, AllocError> {
+pub(crate) fn begin(alloc: Global) -> Result<State, AllocError> {
     let mut state = state_of(alloc, lines!(4, Some(9)))?;
     state.marks.add(Letter::at(24));
     state.marks.add(Letter::at(25));
@@ -77,7 +87,7 @@ fn begin(alloc: Global) -> Result<State, AllocError> {
 
 /// What is asked of a state: whether a line is known to match a pattern, or whether no line between two is known to.
 #[derive(Clone, Copy, Debug)]
-enum Asked {
+pub(crate) enum Asked {
     Line(u8, &'static [u8], Option<bool>),
     Clear(u8, u8, &'static [u8], bool),
 }
@@ -103,7 +113,7 @@ fn names_addresses(state: &State) -> bool {
 }
 
 /// Whether a state answers something else.
-fn answers_otherwise(state: &State, asked: Asked) -> bool {
+pub(crate) fn answers_otherwise(state: &State, asked: Asked) -> bool {
     match asked {
         Asked::Line(x, pattern, answer) => state.facts.told(&state.zone, at(x), pattern) != answer,
         Asked::Clear(x, y, pattern, answer) => {
@@ -179,7 +189,7 @@ static CURRENT: [Row; 22] = [
 ];
 
 #[rattlefmt::skip]
-static EDITS: [Row; 89] = [
+static EDITS: [Row; 96] = [
     // `d`: letters on either side stay, and stretches only get shorter.
     Row { script: b"1d\n", asked: Asked::Line(b'y', b"A", YES) },
     Row { script: b"1d\n", asked: Asked::Clear(b'0', b'y', b"A", true) },
@@ -278,10 +288,19 @@ static EDITS: [Row; 89] = [
     Row { script: b"'z,$j\n", asked: Asked::Clear(b'y', b'+', b"A", false) },
     Row { script: b"'zj\n", asked: Asked::Line(b'z', b"B", YES) },
     Row { script: b"'yp\n'z,$j\n", asked: Asked::Line(b'.', b"A", None) },
+    // `j` that may join: what is known whether it does or not. The second line may be the one that matches A.
+    Row { script: b"2,'yj\n", asked: Asked::Line(b'z', b"B", YES) },
+    Row { script: b"2,'yj\n", asked: Asked::Clear(b'z', b'+', b"A", true) },
+    Row { script: b"2,'yj\n", asked: Asked::Line(b'y', b"A", None) },
+    Row { script: b"2,'yj\n", asked: Asked::Clear(b'0', b'.', b"A", false) },
+    Row { script: b"'zp\n2,'yj\n", asked: Asked::Line(b'.', b"B", None) },
+    Row { script: b"2p\n2,'yj\n", asked: Asked::Clear(b'0', b'.', b"A", true) },
+    // Where it doesn't, the second line is that of `y`.
+    Row { script: b"2p\n2,'yj\n", asked: Asked::Clear(b'.', b'z', b"B", true) },
 ];
 
 #[rattlefmt::skip]
-static SUBSTITUTIONS: [Row; 28] = [
+static SUBSTITUTIONS: [Row; 50] = [
     // Of the line that comes of one nothing is known; the others are as they were, with their letters.
     Row { script: b"'ys/A/x/\n", asked: Asked::Line(b'.', b"A", None) },
     Row { script: b"'ys/A/x/\n", asked: Asked::Line(b'y', b"A", None) },
@@ -309,9 +328,35 @@ static SUBSTITUTIONS: [Row; 28] = [
     Row { script: b"'ys/A/A\\\nx/\n", asked: Asked::Clear(b'.', b'+', b"A", true) },
     Row { script: b"'zs/B/x\\\nx/\n", asked: Asked::Clear(b'0', b'y', b"A", true) },
     Row { script: b"'zs/B/x\\\nx/\n", asked: Asked::Clear(b'y', b'.', b"B", false) },
-    // Of several lines nothing is left.
-    Row { script: b"'y,'zs/A/x/\n", asked: Asked::Line(b'z', b"B", None) },
-    Row { script: b"1,'ys/A/x/\n", asked: Asked::Line(b'z', b"B", None) },
+    // What is put in isn't looked at, whole lines neither.
+    Row { script: b"'ys/.*/A/\n", asked: Asked::Line(b'.', b"A", None) },
+    Row { script: b"'ys/A/AA/\n", asked: Asked::Line(b'.', b"A", None) },
+    Row { script: b"'ys/A/B/\n", asked: Asked::Line(b'.', b"B", None) },
+    Row { script: b"'ys/A/B/\n", asked: Asked::Clear(b'.', b'z', b"B", true) },
+    Row { script: b"'zs/B/A/\n", asked: Asked::Clear(b'y', b'+', b"A", false) },
+    // Of several lines those stay that the pattern doesn't match, and those outside.
+    Row { script: b"'y,'zs/A/x/\n", asked: Asked::Line(b'z', b"B", YES) },
+    Row { script: b"'y,'zs/A/x/\n", asked: Asked::Line(b'y', b"A", None) },
+    Row { script: b"'y,'zs/A/x/\n", asked: Asked::Clear(b'z', b'+', b"A", true) },
+    Row { script: b"'y,'zs/A/x/\n", asked: Asked::Clear(b'0', b'z', b"A", false) },
+    Row { script: b"1,'ys/A/x/\n", asked: Asked::Line(b'z', b"B", YES) },
+    Row { script: b"1,'ys/A/x/\n", asked: Asked::Clear(b'z', b'+', b"A", true) },
+    Row { script: b"1,'zs/B/x/\n", asked: Asked::Line(b'z', b"B", None) },
+    Row { script: b"1,'zs/B/x/\n", asked: Asked::Line(b'y', b"A", None) },
+    Row { script: b"'z,$s/B/x/\n", asked: Asked::Line(b'y', b"A", YES) },
+    Row { script: b"'z,$s/B/x/\n", asked: Asked::Clear(b'0', b'y', b"A", true) },
+    Row { script: b"'z,$s/B/x/\n", asked: Asked::Clear(b'y', b'+', b"A", false) },
+    // What comes of a line may match what none did, so a stretch stays only where no line of it may be changed.
+    Row { script: b"'y+1,'zs/B/x/\n", asked: Asked::Clear(b'0', b'y', b"A", true) },
+    Row { script: b"'y+1,'zs/B/x/\n", asked: Asked::Clear(b'y', b'+', b"A", false) },
+    // The current line is one that was changed, and the last line stays if it is outside.
+    Row { script: b"'zp\n1,'ys/A/x/\n", asked: Asked::Line(b'.', b"B", None) },
+    Row { script: b"$a\nA\n.\n1,$-1s/A/x/\n", asked: Asked::Line(b'$', b"A", YES) },
+    Row { script: b"$a\nA\n.\n1,$s/A/x/\n", asked: Asked::Line(b'$', b"A", None) },
+    Row { script: b"$a\nA\n.\n1,$s/B/x/\n", asked: Asked::Line(b'$', b"A", YES) },
+    // Where lines may be split nothing is left.
+    Row { script: b"1,'ys/A/x\\\ny/\n", asked: Asked::Line(b'z', b"B", None) },
+    Row { script: b"1,'ys/A/x\\\ny/\n", asked: Asked::Clear(b'z', b'+', b"A", false) },
     Row { script: b"'ys/A/x/\n1d\n", asked: Asked::Line(b'z', b"B", YES) },
 ];
 
@@ -379,7 +424,11 @@ fn after_script(alloc: Global, script: &[u8], follows: bool) -> Result<Option<St
 }
 
 /// The same from a state.
-fn after_in(alloc: Global, begun: State, script: &[u8]) -> Result<Option<State>, AllocError> {
+pub(crate) fn after_in(
+    alloc: Global,
+    begun: State,
+    script: &[u8],
+) -> Result<Option<State>, AllocError> {
     let mut state = begun;
     let script = read_script(alloc, script)?;
     let mut has = Texts::none(alloc);
@@ -457,27 +506,43 @@ fn lines_that_are_moved_keep_what_is_known_of_them(rt: HostRuntime) -> Result<()
     Ok(())
 }
 
-/// Whether something is known of single lines after the first command of a list.
-fn are_left_in_list(alloc: Global, script: &[u8]) -> Result<Option<bool>, AllocError> {
+#[rattlefmt::skip]
+static LISTED: [Row; 10] = [
+    Row { script: b"g/x/'ys/A/x/\n", asked: Asked::Line(b'z', b"B", YES) },
+    Row { script: b"g/x/'ys/A/x/\n", asked: Asked::Line(b'y', b"A", None) },
+    Row { script: b"g/x/'ys/A/x/\n", asked: Asked::Clear(b'0', b'.', b"A", false) },
+    Row { script: b"g/x/'ys/C/x/\n", asked: Asked::Line(b'y', b"A", None) },
+    Row { script: b"g/x/'ys/C/x/\n", asked: Asked::Line(b'z', b"B", YES) },
+    Row { script: b"g/x/'zs/A/x/\n", asked: Asked::Line(b'z', b"B", YES) },
+    Row { script: b"g/x/1,$s/A/x/\n", asked: Asked::Line(b'z', b"B", YES) },
+    Row { script: b"g/x/1,$s/A/x/\n", asked: Asked::Clear(b'z', b'+', b"A", true) },
+    Row { script: b"g/x/1,$s/B/x/\n", asked: Asked::Line(b'z', b"B", None) },
+    Row { script: b"g/x/'yd\n", asked: Asked::Line(b'z', b"B", YES) },
+];
+
+/// Whether the first command of a list leaves something else than its row says.
+fn is_otherwise_in_list(alloc: Global, row: &Row) -> Result<bool, AllocError> {
     let state = begin(alloc)?;
-    let script = read_script(alloc, script)?;
+    let script = read_script(alloc, row.script)?;
     let mut left = state.try_copy()?;
     for command in script.commands.as_slice() {
         for listed in command.list() {
             let failed = outcome_into(listed, &state, &mut left, &Watch::none(alloc))?;
-            return Ok(Some(failed.is_none() && !left.facts.are_none()));
+            return Ok(failed.is_some() || answers_otherwise(&left, row.asked));
         }
     }
-    Ok(None)
+    Ok(true)
 }
 
 #[test]
-fn in_a_list_a_substitution_leaves_nothing(rt: HostRuntime) -> Result<(), Fail> {
+fn in_a_list_a_substitution_leaves_lines_that_its_pattern_does_not_match(
+    rt: HostRuntime,
+) -> Result<(), Fail> {
     // There it may be that no line matches, and none is changed.
-    let substituted = are_left_in_list(rt.alloc(), b"g/x/'ys/A/x/\n")?;
-    assert!(rt; substituted == Some(false));
-    let deleted = are_left_in_list(rt.alloc(), b"g/x/'yd\n")?;
-    assert!(rt; deleted == Some(true));
+    for row in &LISTED {
+        let otherwise = is_otherwise_in_list(rt.alloc(), row)?;
+        assert!(rt; !otherwise, "{:?} {:?}", row.script, row.asked);
+    }
     Ok(())
 }
 
@@ -529,6 +594,41 @@ fn stretches_that_others_say_are_left_out(rt: HostRuntime) -> Result<(), Fail> {
     assert!(rt; nine == Some(18));
     let again = stretches_after(rt.alloc(), b"rstuvwxyz", b"$a\n-\n.\n0a\n-\n.\n'z\n")?;
     assert!(rt; again == Some(18));
+    Ok(())
+}
+
+/// What is known of the last new line after a script, beside a letter whose line alone matches `r`; A and B are watched for.
+fn last_new(
+    alloc: Global,
+    script: &[u8],
+    pattern: &[u8],
+) -> Result<Option<Option<bool>>, AllocError> {
+    let state = begin_with(alloc, b"r")?;
+    match after_in(alloc, state, script)? {
+        Some(state) => {
+            let name = Name::CURRENT_LINE;
+            Ok(Some(state.facts.told(&state.zone, name, pattern)))
+        }
+        None => Ok(None),
+    }
+}
+
+#[test]
+fn a_watched_pattern_that_no_new_line_matches_is_left_out(rt: HostRuntime) -> Result<(), Fail> {
+    let matched = last_new(rt.alloc(), b"$a\nA\n.\n", b"A")?;
+    assert!(rt; matched == Some(YES));
+    let other = last_new(rt.alloc(), b"$a\nA\n.\n", b"B")?;
+    assert!(rt; other == Some(None));
+    // That the last line doesn't match A either is said where something else is said of A.
+    let before = last_new(rt.alloc(), b"$a\nA\n-\n.\n", b"A")?;
+    assert!(rt; before == Some(None));
+    let left = last_new(rt.alloc(), b"$a\nA\n.\n$a\nB\n.\n", b"A")?;
+    assert!(rt; left == Some(None));
+    let marked = last_new(rt.alloc(), b"$a\nA\n.\nka\n$a\nB\n.\n", b"A")?;
+    assert!(rt; marked == Some(NO));
+    // Facts speak of this one.
+    let spoken = last_new(rt.alloc(), b"$a\nA\n.\n", b"r")?;
+    assert!(rt; spoken == Some(NO));
     Ok(())
 }
 

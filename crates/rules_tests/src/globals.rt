@@ -23,7 +23,7 @@ fn begun_first(script: &Script, state: &State) -> Result<State, Unreached> {
 }
 
 /// The state before the list of a script's first command is run for any line.
-fn begun(alloc: Global, script: &[u8], state: &State) -> Result<State, Unreached> {
+pub(crate) fn begun(alloc: Global, script: &[u8], state: &State) -> Result<State, Unreached> {
     let script = read_script(alloc, script)?;
     begun_first(&script, state)
 }
@@ -44,7 +44,7 @@ fn entered_first(script: &Script, begun: &State) -> Result<State, Unreached> {
 }
 
 /// The same of the global command that is a script's first.
-fn entered(alloc: Global, script: &[u8], begun: &State) -> Result<State, Unreached> {
+pub(crate) fn entered(alloc: Global, script: &[u8], begun: &State) -> Result<State, Unreached> {
     let script = read_script(alloc, script)?;
     entered_first(&script, begun)
 }
@@ -65,7 +65,7 @@ fn ended_first(script: &Script, before: &State, invariant: &State) -> Result<Sta
 }
 
 /// The state after the global command that is a script's first.
-fn ended(
+pub(crate) fn ended(
     alloc: Global,
     script: &[u8],
     before: &State,

@@ -34,7 +34,7 @@ macro_rules! found {
 }
 
 #[rattlefmt::skip]
-static ROWS: [Row; 38] = [
+static ROWS: [Row; 39] = [
     // What an `s` replaces has to be in the line that is searched for. The first search begins at the last line, and so at the first one that
     // matches; backwards it is another one, unless it is the only one.
     Row { script: b"/^Port/s/22/2222/\nw\nq\n", given: None, found: found!(0, None, &[b"/^Port/ & /22/"]) },
@@ -73,10 +73,12 @@ static ROWS: [Row; 38] = [
     Row { script: b"//d\nQ\n", given: None, found: None },
     Row { script: b"$d\nzz\n", given: None, found: None },
     Row { script: b"", given: None, found: None },
-    // What a line matches stays known while others are changed, but not after a `g`.
+    // What a line matches stays known while others are changed, and after a `g` whose list leaves them; but then any line may be current, and
+    // the search finds the line that was known if it is the only one.
     Row { script: b"/^Port/\ns/22/2222/\nw\nq\n", given: None, found: found!(0, None, &[b"/^Port/ & /22/"]) },
     Row { script: b"/^Port/s/22/2222/\n/^Host/s/a/b/\nw\nq\n", given: None, found: found!(0, None, &[b"/^Port/ & /22/; /^Host/ & /a/"]) },
-    Row { script: b"g/x/p\n/^Port/s/22/2222/\nw\nq\n", given: None, found: None },
+    Row { script: b"g/x/p\n/^Port/s/22/2222/\nw\nq\n", given: None, found: found!(0, None, &[b"only /^Port/ & /22/"]) },
+    Row { script: b"g/x/d\n/^Port/s/22/2222/\nw\nq\n", given: None, found: None },
     // What an earlier search finds is another line than the one that is looked for.
     Row { script: b"/^Port/c\na\n.\n/^Host/d\nw\nq\n", given: None, found: found!(0, None, &[b"/^Port/; /^Host/"]) },
     // Of several lines one is known.

@@ -16,6 +16,8 @@ mod fact_texts;
 #[cfg(test)]
 mod facts_after;
 #[cfg(test)]
+mod followed_globals;
+#[cfg(test)]
 mod followed_lines;
 #[cfg(test)]
 mod globals;
@@ -45,6 +47,8 @@ mod substitution;
 mod text;
 #[cfg(test)]
 mod third_version;
+#[cfg(test)]
+mod told_apart;
 #[cfg(test)]
 mod told_facts;
 #[cfg(test)]

@@ -13,19 +13,19 @@ use std::alloc::{AllocError, Global};
 use std::test::Fail;
 
 /// A script, the patterns and the chains that its start has besides any number of lines, and the answer: the version and the number of
-/// chains of the certificate, or the number of the command whose need fails, and why.
+/// chains of the certificate, or the number of the command whose need fails, that of the command of its list if it is one of these, and why.
 #[derive(Drop)]
-struct Row {
-    script: &'static [u8],
-    has: Option<&'static [&'static [u8]]>,
-    landmarks: Option<&'static [&'static [u8]]>,
-    answer: Answer,
+pub(crate) struct Row {
+    pub script: &'static [u8],
+    pub has: Option<&'static [&'static [u8]]>,
+    pub landmarks: Option<&'static [&'static [u8]]>,
+    pub answer: Answer,
 }
 
 #[derive(Clone, Copy, PartialEq, Eq, Debug, Drop)]
-enum Answer {
+pub(crate) enum Answer {
     Vouched(Version, usize),
-    Fails(usize, Fault),
+    Fails(usize, Option<usize>, Fault),
 }
 
 const BLOCK: &[u8] = b"/A/;/B/d\nw\nq\n";
@@ -44,23 +44,23 @@ const LEAVING_Z: &[u8] =
 #[rattlefmt::skip]
 static ROWS: [Row; 14] = [
     Row { script: BLOCK, has: None, landmarks: Some(ENDS), answer: Answer::Vouched(Version::Three, 1) },
-    Row { script: BLOCK, has: None, landmarks: None, answer: Answer::Fails(1, Fault::NoMatch) },
-    Row { script: BLOCK, has: None, landmarks: Some(&[]), answer: Answer::Fails(1, Fault::NoMatch) },
-    Row { script: BLOCK, has: None, landmarks: Some(&[b"/A/"]), answer: Answer::Fails(1, Fault::NoMatch) },
+    Row { script: BLOCK, has: None, landmarks: None, answer: Answer::Fails(1, None, Fault::NoMatch) },
+    Row { script: BLOCK, has: None, landmarks: Some(&[]), answer: Answer::Fails(1, None, Fault::NoMatch) },
+    Row { script: BLOCK, has: None, landmarks: Some(&[b"/A/"]), answer: Answer::Fails(1, None, Fault::NoMatch) },
     // With `has` alone it isn't known which of the two comes first.
-    Row { script: BLOCK, has: Some(&[b"A", b"B"]), landmarks: None, answer: Answer::Fails(1, Fault::Address) },
+    Row { script: BLOCK, has: Some(&[b"A", b"B"]), landmarks: None, answer: Answer::Fails(1, None, Fault::Address) },
     Row { script: BLOCK, has: Some(&[b"C"]), landmarks: Some(ENDS), answer: Answer::Vouched(Version::Three, 1) },
     // Two chains.
     Row { script: b"/A/p\n/B/p\nQ\n", has: Some(&[b"B"]), landmarks: Some(&[b"/A/", b"3 & /C/"]), answer: Answer::Vouched(Version::Three, 2) },
     // Without chains single lines are followed, and no line of the start has a name.
     Row { script: b"/foo/s//bar/\nQ\n", has: Some(&[b"foo"]), landmarks: Some(&[]), answer: Answer::Vouched(Version::Three, 0) },
-    Row { script: b"/foo/s//bar/\nQ\n", has: Some(&[b"foo"]), landmarks: None, answer: Answer::Fails(1, Fault::NoMatch) },
+    Row { script: b"/foo/s//bar/\nQ\n", has: Some(&[b"foo"]), landmarks: None, answer: Answer::Fails(1, None, Fault::NoMatch) },
     // The versions before.
     Row { script: b"/foo/p\nQ\n", has: Some(&[b"foo"]), landmarks: None, answer: Answer::Vouched(Version::Two, 0) },
     Row { script: b"H\nQ\n", has: Some(&[]), landmarks: None, answer: Answer::Vouched(Version::Two, 0) },
     Row { script: b"H\nQ\n", has: None, landmarks: None, answer: Answer::Vouched(Version::One, 0) },
     // A landmark for which the script leaves no letter doesn't count, so that nothing is known of how many lines there are.
-    Row { script: NAMING, has: None, landmarks: Some(&[b"/A/"]), answer: Answer::Fails(2, Fault::Address) },
+    Row { script: NAMING, has: None, landmarks: Some(&[b"/A/"]), answer: Answer::Fails(2, None, Fault::Address) },
     Row { script: LEAVING_Z, has: None, landmarks: Some(&[b"/A/"]), answer: Answer::Vouched(Version::Three, 1) },
 ];
 
@@ -100,7 +100,9 @@ fn answer_of(script: &Script, analysis: &Analysis) -> Result<Option<Answer>, All
             }
             Ok(Some(Answer::Vouched(certificate.version, certificate.landmarks.len())))
         }
-        Analysis::Cannot { place, why, .. } => Ok(Some(Answer::Fails(place.command, *why))),
+        Analysis::Cannot { place, why, .. } => {
+            Ok(Some(Answer::Fails(place.command, place.inner, *why)))
+        }
     }
 }
 
@@ -109,13 +111,8 @@ fn is_judged_otherwise(script: &Script, start: &Start, answer: Answer) -> Result
     let failure = first_failure(script, start)?;
     Ok(match (failure, answer) {
         (None, Answer::Vouched(..)) => false,
-        (Some(failure), Answer::Fails(command, why)) => {
-            failure.place
-                != Place {
-                    command,
-                    inner: None,
-                }
-                || failure.why != why
+        (Some(failure), Answer::Fails(command, inner, why)) => {
+            failure.place != Place { command, inner } || failure.why != why
         }
         _ => true,
     })
@@ -130,7 +127,7 @@ fn script_answer(alloc: Global, script: &Script, row: &Row) -> Result<Option<Ans
     Ok(answer_of(script, &analysis)?)
 }
 
-fn row_answer(alloc: Global, row: &Row) -> Result<Option<Answer>, Unreached> {
+pub(crate) fn row_answer(alloc: Global, row: &Row) -> Result<Option<Answer>, Unreached> {
     let script = read_script(alloc, row.script)?;
     script_answer(alloc, &script, row)
 }
