@@ -39,6 +39,7 @@ pub mod RowTables
 pub mod TurnTables
 pub mod Words
 pub mod Needs
+pub mod NeededWords
 pub mod Beginnings
 pub mod RowEnds
 pub mod Automata

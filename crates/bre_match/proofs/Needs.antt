@@ -47,7 +47,7 @@ first_there n rs at (suc k) (byte ∷ bytes) lt is before =
     ∙ first_there n rs (at + 1) k bytes (omega arith) is (λ j l. before (suc j) (omega arith))
     ∙ ap Some (let e : at + 1 + k + 1 ≡ at + suc k + 1 = omega arith in e)
 
-one_range : (low high byte : ℕ) → in_set false ((low, high) ∷ []) byte ≡ (nat_le low byte && nat_le byte high)
+pub one_range : (low high byte : ℕ) → in_set false ((low, high) ∷ []) byte ≡ (nat_le low byte && nat_le byte high)
 one_range low high byte = by_cases (nat_le low byte && nat_le byte high)
   where
     by_cases : (c : Bool) → (c || false) ≡ c
@@ -57,7 +57,7 @@ one_range low high byte = by_cases (nat_le low byte && nat_le byte high)
 same_byte : (byte other : ℕ) → (other == byte) ≡ true → in_set false ((byte, byte) ∷ []) other ≡ true
 same_byte byte other e = one_range byte byte other ∙ grind (arith, nat_tests)
 
-other_byte : (byte other : ℕ) → ¬ ((other == byte) ≡ true) → in_set false ((byte, byte) ∷ []) other ≡ false
+pub other_byte : (byte other : ℕ) → ¬ ((other == byte) ≡ true) → in_set false ((byte, byte) ∷ []) other ≡ false
 other_byte byte other e = one_range byte byte other ∙ grind (arith, nat_tests)
 
 -- What a search for a byte finds
@@ -75,7 +75,7 @@ get_dropped (byte ∷ s) (suc from) k =
     let e : suc from + k ≡ suc (from + k) = omega arith in
     get_dropped s from k ∙ sym (ap (slice_get (byte ∷ s)) e)
 
-none_through : (f : Way → List Way) (low high : ℕ) (ws : List Way) → EndBetween low high ws → ((w : Way) → low ≤ w.0 → w.0 ≤ high → f w ≡ []) → flat_map f ws ≡ []
+pub none_through : (f : Way → List Way) (low high : ℕ) (ws : List Way) → EndBetween low high ws → ((w : Way) → low ≤ w.0 → w.0 ≤ high → f w ≡ []) → flat_map f ws ≡ []
 none_through f low high [] b all = refl
 none_through f low high (w ∷ ws) b all =
     ap (λ l. l ++ flat_map f ws) (all w b.0 b.1) ∙ none_through f low high ws b.2 all
@@ -84,7 +84,7 @@ abbrev set_told : Option (Bool × List (ℕ × ℕ)) → Tree
 set_told None = Empty
 set_told (Some set) = Set set.0 set.1
 
-set_is : (tree : Tree) (set : Bool × List (ℕ × ℕ)) → one_byte_of tree ≡ Some set → tree ≡ Set set.0 set.1
+pub set_is : (tree : Tree) (set : Bool × List (ℕ × ℕ)) → one_byte_of tree ≡ Some set → tree ≡ Set set.0 set.1
 set_is (Set n rs) set e = ap set_told e
 set_is Empty set e = absurd cc
 set_is (Then a b) set e = absurd cc

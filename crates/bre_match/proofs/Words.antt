@@ -53,7 +53,7 @@ occurs_begins (suc k) (x ∷ hay) w h =
       reads = λ j lt. ap (slice_index (x ∷ hay)) (let e : suc (k + j) ≡ suc k + j = omega arith in e) ∙ h.reads j lt;
     })
 
-begins_occurs : (k : ℕ) (hay w : List ℕ) → k ≤ length hay → begins_with (drop k hay) w ≡ true → OccursAt hay w k
+pub begins_occurs : (k : ℕ) (hay w : List ℕ) → k ≤ length hay → begins_with (drop k hay) w ≡ true → OccursAt hay w k
 begins_occurs zero hay w le h =
     let i = begins_reads hay w h in
     let f = i.fits in

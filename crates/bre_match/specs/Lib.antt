@@ -2,6 +2,8 @@
 pub mod Answer
 -- what a searcher looks for
 pub mod Searchers
+-- by what parts of a text are passed over
+pub mod Passing
 -- what is kept from one searcher to the next, handed on between calls alone: `resume` takes it, `of` and `leave` give it
 pub mod Learning
 -- laws of first ways, and which of them count as one

@@ -7,8 +7,10 @@ ghost use Rattle.bre_parse.specs.Literal.{literal};
 
 use crate::grouping::all_groupless;
 use crate::needed::needs_ranges;
+use crate::needed_word::needed_word;
 use crate::pace::Pace;
 use crate::row::{has_wide_states, is_told_in_order};
+use crate::short_word::Word;
 use crate::state::State;
 use bre_parse::Bre;
 use std::alloc::Global;
@@ -39,6 +41,8 @@ pub struct Learned {
     pub(crate) end_pace: Pace,
     // How many bytes are still searched without an automaton.
     pub(crate) wait: usize,
+    // A word that each match has, an empty one where none is known.
+    pub(crate) word: Word,
 }
 
 impl Learned {
@@ -60,6 +64,7 @@ impl Learned {
             end_table: Vec::new(alloc),
             end_pace: Pace::first(items),
             wait: FIRST_BYTES,
+            word: needed_word(items),
         }
     }
 }

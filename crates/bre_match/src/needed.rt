@@ -12,7 +12,7 @@ use bre_parse::tree::{ByteSet, Node};
 use memchr::memchr;
 
 /// The ends of a set that is spelled as one range.
-fn only_range(set: &ByteSet) -> Option<(u8, u8)>
+pub(crate) fn only_range(set: &ByteSet) -> Option<(u8, u8)>
     ensures sound { IfSome result (λ range. (set.now.negated ≡ false) × (set.now.ranges.items ≡ range ∷ [])) }
 {
     if !set.negated && set.ranges.len() == 1 {

@@ -8,6 +8,7 @@ use crate::grouping::set_row;
 use crate::learned::Learned;
 use crate::needed::lacks_needed;
 use crate::scan::{Scanned, scan};
+use crate::short_word::Word;
 use crate::{Match, find, match_here, matches};
 use bre_parse::Bre;
 use std::alloc::{AllocError, Global};
@@ -42,6 +43,7 @@ impl<'a> Searcher<'a> {
     ghost use Rattle.bre_match.specs.Answer.{spans, LiesWithin};
     ghost use Rattle.bre_match.specs.Scans.{IsTold};
     ghost use Rattle.bre_match.specs.Searchers.{searched};
+    ghost use Rattle.bre_match.specs.Passing.{NeedsWord, word_bytes};
 
     /// A searcher for a pattern. It takes no memory yet.
     pub fn new(alloc: Global, pattern: &'a Bre) -> Self
@@ -95,6 +97,13 @@ impl<'a> Searcher<'a> {
             from,
         )?;
         Ok(told)
+    }
+
+    /// A word that each match of the pattern has, an empty one where none is known: `Candidates` pass over much of a text by it.
+    pub fn needed_word(&self) -> Word
+        ensures needed { NeedsWord (searched self.now) (word_bytes result) }
+    {
+        self.learned.word
     }
 
     /// Whether the pattern matches anywhere in a text, as `crate::matches` says it.

@@ -4,6 +4,8 @@
 #[cfg(test)]
 mod matching;
 #[cfg(test)]
+mod passing;
+#[cfg(test)]
 mod reading;
 #[cfg(test)]
 mod resuming;

@@ -137,6 +137,13 @@ bytes_of-ended (byte ∷ front) =
     ∙ bytes_of-onto_first byte (lines_of ended) (omega (arith, length-lines_of front newline)) ∙ ap (λ t. byte ∷ t) later)
     (cases_eq byte newline)
 
+-- bytes up to a newline have their lines, and those after it theirs
+pub lines_of-cut : (front rest : List ℕ) → lines_of (front ++ newline ∷ rest) ≡ lines_of (front ++ newline ∷ []) ++ lines_of rest
+lines_of-cut front rest =
+    let ended : List ℕ = front ++ newline ∷ [] in
+    ap lines_of (sym (append_assoc front (newline ∷ []) rest) ∙ ap (λ t. t ++ rest) (sym (bytes_of-ended front)))
+    ∙ lines_of-written (lines_of ended) rest (AreLines-lines_of ended)
+
 -- a newline after a last line that lacks it makes no other lines
 pub lines_of-ended : (front : List ℕ) (last : ℕ) → last ≢ newline → lines_of ((front ++ last ∷ []) ++ newline ∷ []) ≡ lines_of (front ++ last ∷ [])
 lines_of-ended [] last lacks = lines_of-other last (newline ∷ []) lacks ∙ sym (lines_of-other last [] lacks)

@@ -18,8 +18,8 @@ pub use bytes::Bytes;
 pub use fault::Fault;
 pub use letter::{Letter, letters_are_counted, marking_keeps_letters};
 pub use lines::{
-    bytes_hold_their_lines, count_lines, join_lines, next_line, split_lines,
-    written_lines_are_read_back,
+    bytes_hold_their_lines, count_lines, join_lines, lines_are_cut_at_newlines, next_line,
+    split_lines, written_lines_are_read_back,
 };
 pub use member::Member;
 pub use numbers::push_number;

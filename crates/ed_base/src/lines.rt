@@ -1,6 +1,6 @@
 //! The lines of bytes, and the bytes of lines.
 ghost use Rattle.std.specs.Prelude.{◌≡◌, ◌↔◌, ◌<◌, ℕ, List, [], ◌∷◌, ◌++◌, length, IsNone, IfSome, IfOk};
-ghost use Rattle.ed_base.specs.Lines.{IsLine, AreLines, HoldsLines, CutsFirst, lines_of, bytes_of};
+ghost use Rattle.ed_base.specs.Lines.{IsLine, AreLines, HoldsLines, CutsFirst, lines_of, bytes_of, newline};
 
 use crate::newlines::count_newlines;
 use crate::{Bytes, Text};
@@ -55,6 +55,12 @@ pub fn bytes_hold_their_lines()
     ensures held { (bytes : List ℕ) → HoldsLines bytes (lines_of bytes) }
     ensures only { (bytes : List ℕ) (lines : List (List ℕ)) → HoldsLines bytes lines → lines ≡ lines_of bytes }
     ensures lines { (bytes : List ℕ) → AreLines (lines_of bytes) }
+{}
+
+/// At a newline the lines of bytes are cut in two: those up to it, which are written as these bytes stand, and those of the bytes after it.
+pub fn lines_are_cut_at_newlines()
+    ensures cut { (front rest : List ℕ) → lines_of (front ++ newline ∷ rest) ≡ lines_of (front ++ newline ∷ []) ++ lines_of rest }
+    ensures written { (front : List ℕ) → bytes_of (lines_of (front ++ newline ∷ [])) ≡ front ++ newline ∷ [] }
 {}
 
 /// Lines that are written as a file are read back from it, before whatever follows.
