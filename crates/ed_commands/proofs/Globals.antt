@@ -1,14 +1,19 @@
 -- What a global command leaves before its list is run: the lines have their texts, and undo what it kept.
-use Rattle.std.proofs.Common.{◌≡◌, ℕ, ◌+◌, ◌-◌, ◌<◌, ◌≤◌, length, get_or, set, Bool, true, false, List, [], ◌∷◌, map, Option, Some, None, Result, Ok, Err, refl, sym, ap, ◌∙◌, subst, arith}
-use Rattle.std.specs.Prelude.{IsOkAnd, ok_or}
-use Rattle.std.proofs.lemmas.List.{length-map, map-append}
-use Rattle.bre_parse.specs.Grammar.{pattern}
+use Rattle.std.proofs.Common.{◌≡◌, ℕ, zero, suc, cond, count_by, ◌+◌, ◌-◌, ◌<◌, ◌≤◌, length, get_or, set, Bool, true, false, List, [], ◌∷◌, ◌++◌, map, Option, Some, None, Result, Ok, Err, refl, sym, ap, ◌∙◌, subst, ⊎_elim, arith}
+use Rattle.std.specs.Prelude.{IsOkAnd, is_some, ok_or}
+use Rattle.std.proofs.lemmas.Bool.{cases_lt}
+use Rattle.std.proofs.lemmas.List.{length-map, map-append, take-append-drop}
+use Rattle.std.proofs.lemmas.List.Sums.{sum_by-cons}
+use Rattle.bre_parse.specs.Grammar as bre
+use Rattle.bre_parse.specs.Match.{match_from}
+use Rattle.bre_parse.specs.Tree.{Tree}
 use Rattle.ed_base.specs.Buffer.{Line, plain_line, texts, with_flag, flagged_at}
 use Rattle.ed_base.specs.Parts.{block, exchanged}
 use Rattle.ed_base.specs.declared.fault.Fault.{Fault}
 use Rattle.ed_base.specs.declared.fault.Fault.TheVariants as fault
 use Rattle.line_store.specs.Marks.{lettered}
 use Rattle.ed_syntax.specs.declared.command.Sense.{Sense}
+use Rattle.ed_syntax.specs.declared.command.Sense.TheVariants as sense
 use Rattle.ed_syntax.specs.declared.request.Answer.{Answer}
 use Rattle.ed_syntax.specs.Commands as ed
 use Rattle.ed_syntax.specs.meaning.Globals.{flagged, flagged_line, flags, opened, wanted}
@@ -20,13 +25,15 @@ use Rattle.ed_syntax.specs.meaning.Applied.{changed_from, command, completed, ef
 use Rattle.ed_syntax.proofs.meaning.CommandSteps.{InOrder, PlacedWell, placed-well}
 use Rattle.ed_syntax.proofs.meaning.FaultSteps.{Gives, gives, bind-gives, bind-any}
 use Rattle.ed_commands.specs.declared.editor.Reply.TheVariants as reply
+use Rattle.ed_commands.specs.Courses.{NoneFrom}
 use Rattle.ed_commands.specs.Earlier.{PastValue, earlier_in, earlier_of, kept_of, opening_global, with_earlier}
 use Rattle.ed_syntax.specs.meaning.Verbs.{asks, is_global}
 use Rattle.ed_commands.specs.Editors.{BeginsBy, Replies, with_pattern}
-use Rattle.ed_commands.proofs.Blocks.{block-more, length-block, set-one, whole}
+use Rattle.ed_commands.proofs.Blocks.{block-more, block-none, length-block, set-one, whole}
 use Rattle.ed_commands.proofs.Changes.{same-texts}
 use Rattle.ed_commands.proofs.Kept.{kept-own, kept-same}
-use Rattle.ed_commands.proofs.Rewritten.{counted, gone, next-line}
+use Rattle.ed_commands.proofs.Rewritten.{counted, gone, next-line, stayed}
+use Rattle.ed_commands.proofs.Searching.{fails-at, matched-by, text-at}
 use Rattle.ed_commands.proofs.Texts.{texts-block, texts-exchanged}
 
 -- flags change no text
@@ -57,6 +64,92 @@ flagged-more which pattern a i old now flag h inside put is =
     ∙ set-one i (f (get_or old i d)) now long
     ∙ gone a i i made (f (get_or old i d) ∷ []) old now d h inside put at
     ∙ ap (λ t. exchanged a (i + 1) t old) (sym (ap (map f) (block-more a i old d h inside) ∙ map-append f (block a i old) (get_or old i d ∷ [])))
+
+-- of no lines none has another flag
+pub none-flagged-yet : (which : Sense) (pattern : List ℕ) (a i : ℕ) (old : List Line) → i ≡ a → exchanged a i (map (flagged_line which pattern) (block a i old)) old ≡ old
+none-flagged-yet which pattern a i old begun =
+    ap (λ k. exchanged a k (map (flagged_line which pattern) (block a k old)) old) begun
+    ∙ ap (λ t. exchanged a a (map (flagged_line which pattern) t) old) (block-none a old)
+    ∙ take-append-drop a old
+
+-- lines that are as they would be are passed over
+flags-passed : (which : Sense) (pattern : List ℕ) (a i n : ℕ) (old : List Line) → a ≤ i → i + n ≤ length old →
+    ((j : ℕ) → i ≤ j → j < i + n → flagged_line which pattern (get_or old j (plain_line [])) ≡ get_or old j (plain_line [])) →
+    exchanged a i (map (flagged_line which pattern) (block a i old)) old ≡ exchanged a (i + n) (map (flagged_line which pattern) (block a (i + n) old)) old
+flags-passed which pattern a i zero old h within same =
+    ap (λ k. exchanged a k (map (flagged_line which pattern) (block a k old)) old) (let e : i ≡ i + 0 = omega arith in e)
+flags-passed which pattern a i (suc n) old h within same =
+    let d = plain_line [] in
+    let f = flagged_line which pattern in
+    let made = map f (block a i old) in
+    let inside : i < length old = omega arith in
+    stayed a i made old d inside
+    ∙ ap (λ t. exchanged a (i + 1) (made ++ t ∷ []) old) (sym (same i (omega arith) (omega arith)))
+    ∙ ap (λ t. exchanged a (i + 1) t old) (sym (ap (map f) (block-more a i old d h inside) ∙ map-append f (block a i old) (get_or old i d ∷ [])))
+    ∙ flags-passed which pattern a (i + 1) n old (omega (arith, h)) (omega (arith, within)) (λ j low high. same j (omega (arith, low)) (omega (arith, high)))
+    ∙ ap (λ k. exchanged a k (map f (block a k old)) old) (let e : i + 1 + n ≡ i + suc n = omega arith in e)
+
+-- where no line has the flag, this one hasn't
+no-flag : (flag : Bool) (others : ℕ) → cond flag 1 0 + others ≡ 0 → flag ≡ false
+no-flag true others none = absurd (omega (arith, none))
+no-flag false others none = refl
+
+flag-of-none : (lines : List Line) (i : ℕ) → count_by (λ line. line.flag) lines ≡ 0 → (get_or lines i (plain_line [])).flag ≡ false
+flag-of-none [] i none = refl
+flag-of-none (line ∷ lines) zero none =
+    no-flag line.flag (count_by (λ l. l.flag) lines) (sym (sum_by-cons (λ (l : Line). cond l.flag 1 0) line lines) ∙ none)
+flag-of-none (line ∷ lines) (suc i) none =
+    flag-of-none lines i (omega (arith, sum_by-cons (λ (l : Line). cond l.flag 1 0) line lines, none))
+
+-- so that one that doesn't match is as `g` would have it
+unflagged-stays : (pattern : List ℕ) (lines : List Line) (i : ℕ) → count_by (λ line. line.flag) lines ≡ 0 →
+    matches pattern (get_or lines i (plain_line [])).bytes ≡ false → flagged_line sense.Matching pattern (get_or lines i (plain_line [])) ≡ get_or lines i (plain_line [])
+unflagged-stays pattern lines i none fails =
+    let line = get_or lines i (plain_line []) in
+    ap (λ b. with_flag b line) (fails ∙ sym (flag-of-none lines i none))
+
+-- lines that don't match are passed over
+pub unmatched-passed : (pattern : List ℕ) (tree : Tree) (a i k : ℕ) (old : List Line) → bre.pattern pattern ≡ Ok tree → a ≤ i → i ≤ k → k ≤ length old →
+    count_by (λ line. line.flag) old ≡ 0 → NoneFrom tree (texts old) i k →
+    exchanged a i (map (flagged_line sense.Matching pattern) (block a i old)) old ≡ exchanged a k (map (flagged_line sense.Matching pattern) (block a k old)) old
+unmatched-passed pattern tree a i k old is h order within none fails =
+    let at : i + (k - i) ≡ k = omega arith in
+    flags-passed sense.Matching pattern a i (k - i) old h (omega arith) (λ j low high.
+    unflagged-stays pattern old j none (fails-at pattern tree old j is (fails j low (omega (arith, high)))))
+    ∙ ap (λ n. exchanged a n (map (flagged_line sense.Matching pattern) (block a n old)) old) at
+
+-- a line more that doesn't match
+none-of : {A : Type 0} (o : Option A) → false ≡ is_some o → o ≡ None
+none-of None h = refl
+none-of (Some x) h = absurd cc
+
+none-more : (tree : Tree) (lines : List (List ℕ)) (i k : ℕ) → NoneFrom tree lines i k → match_from tree (get_or lines k []) 0 ≡ None → NoneFrom tree lines i (k + 1)
+none-more tree lines i k none here = λ j low high.
+    ⊎_elim
+    (λ before. none j low before)
+    (λ last.
+    let e : j ≡ k = omega (arith, last, high) in
+    subst (λ n. match_from tree (get_or lines n []) 0 ≡ None) (sym e) here)
+    (cases_lt j k)
+
+pub skip-unmatched : (pattern : List ℕ) (tree : Tree) (a i k : ℕ) (old now : List Line) (line : List ℕ) → bre.pattern pattern ≡ Ok tree → a ≤ i → i ≤ k → k < length old →
+    count_by (λ line. line.flag) old ≡ 0 → NoneFrom tree (texts old) i k → line ≡ get_or (texts old) k [] → false ≡ is_some (match_from tree line 0) →
+    now ≡ exchanged a i (map (flagged_line sense.Matching pattern) (block a i old)) old →
+    now ≡ exchanged a (k + 1) (map (flagged_line sense.Matching pattern) (block a (k + 1) old)) old
+skip-unmatched pattern tree a i k old now line is h order inside none fails text told put =
+    put
+    ∙ unmatched-passed pattern tree a i (k + 1) old is h (omega (arith, order)) (omega (arith, inside)) none
+    (none-more tree (texts old) i k fails (ap (λ t. match_from tree t 0) (sym text) ∙ none-of (match_from tree line 0) told))
+
+-- and one that does
+pub flag-matched : (pattern : List ℕ) (tree : Tree) (a i k : ℕ) (old now : List Line) (line : List ℕ) → bre.pattern pattern ≡ Ok tree → a ≤ i → i ≤ k → k < length old →
+    count_by (λ line. line.flag) old ≡ 0 → NoneFrom tree (texts old) i k → texts now ≡ texts old → line ≡ get_or (texts old) k [] → true ≡ is_some (match_from tree line 0) →
+    now ≡ exchanged a i (map (flagged_line sense.Matching pattern) (block a i old)) old →
+    flagged_at k true now ≡ exchanged a (k + 1) (map (flagged_line sense.Matching pattern) (block a (k + 1) old)) old
+flag-matched pattern tree a i k old now line is h order inside none fails same text told put =
+    flagged-more sense.Matching pattern a k old now true (omega (arith, h, order)) inside
+    (put ∙ unmatched-passed pattern tree a i k old is h order (omega (arith, inside)) none fails)
+    (ap (matches pattern) (text-at now k ∙ ap (λ t. get_or t k []) same ∙ sym text) ∙ matched-by pattern line tree is ∙ sym told)
 
 -- lines of a span with the flag or not
 abbrev pub flagged_span : Sense → (pattern : List ℕ) → Span → List Line → List Line

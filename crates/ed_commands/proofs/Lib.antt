@@ -1,6 +1,7 @@
 pub mod Commanding
 pub mod Blocks
 pub mod Changes
+pub mod Courses
 pub mod Filing
 pub mod Globals
 pub mod Held

@@ -1,10 +1,11 @@
 -- Lines that are rewritten one by one.
-use Rattle.std.proofs.Common.{◌≡◌, ℕ, suc, ◌+◌, ◌-◌, ◌<◌, ◌≤◌, Bool, true, false, List, [], ◌∷◌, ◌++◌, take, drop, length, get_or, map, option_map, Option, Some, None, refl, sym, ap, ◌∙◌, arith, append_assoc}
-use Rattle.std.specs.Prelude.{unwrap_or, is_some, Result, Ok, Err, IfNone}
+use Rattle.std.proofs.Common.{◌≡◌, ℕ, zero, suc, ◌+◌, ◌-◌, ◌<◌, ◌≤◌, Bool, true, false, List, [], ◌∷◌, ◌++◌, take, drop, length, get_or, map, option_map, Option, Some, None, refl, sym, ap, ◌∙◌, subst, arith, append_assoc}
+use Rattle.std.specs.Prelude.{unwrap_or, is_some, nat_le, Result, Ok, Err, IfNone}
 use Rattle.std.proofs.lemmas.List.Elements.{All-nil, All-cons}
-use Rattle.std.proofs.lemmas.List.{drop_more, append-nil, length-append, length-map, length-take-le, get_or_at}
+use Rattle.std.proofs.lemmas.List.{drop_all, drop_more, take-append-drop, append-nil, length-append, length-map, length-take-le, get_or_at}
 use Rattle.bre_parse.specs.Tree.{Tree}
 use Rattle.bre_parse.specs.Grammar.{pattern}
+use Rattle.bre_parse.specs.Match.{match_from}
 use Rattle.bre_parse.specs.declared.fault.BreFault.{BreFault}
 use Rattle.ed_base.specs.Lines.{newline, IsLine}
 use Rattle.ed_base.proofs.LineLemmas.{lines_of-bytes_of}
@@ -13,15 +14,18 @@ use Rattle.ed_base.specs.Buffer.{Line, plain_line, texts}
 use Rattle.ed_base.specs.Parts.{block, exchanged}
 use Rattle.ed_syntax.specs.declared.replacement.Part.{Part}
 use Rattle.ed_syntax.specs.declared.replacement.Which.{Which}
+use Rattle.ed_syntax.specs.declared.replacement.Which.TheVariants as choice
 use Rattle.ed_syntax.specs.meaning.States.{Kept}
-use Rattle.ed_syntax.specs.meaning.Substitution.{split_at_newlines, substituted, replaced_in, picked, taken}
+use Rattle.ed_syntax.specs.meaning.Substitution.{Found, split_at_newlines, substituted, replaced_in, picked, taken, taken_first, taken_from}
 use Rattle.ed_syntax.specs.meaning.SubstitutedLines.{Results, each, made_of, onto}
 use Rattle.ed_commands.specs.declared.editor.past.Before.{Before}
+use Rattle.ed_commands.specs.Courses.{NoneFrom}
 use Rattle.ed_commands.specs.Earlier.{Earlier, PastValue, earlier_after, earlier_of, kept_lines}
 use Rattle.ed_commands.specs.Editors.{AreNew}
 use Rattle.ed_commands.specs.Rewriting.{earlier_of_rewritten}
-use Rattle.ed_commands.proofs.Blocks.{block-more, length-exchanged, taken-back}
+use Rattle.ed_commands.proofs.Blocks.{block-more, block-none, length-exchanged, taken-back}
 use Rattle.ed_commands.proofs.Changes.{made-new}
+use Rattle.ed_commands.proofs.Searching.{text-at}
 
 -- what results of lines, and of one more after them
 abbrev pub with_last : Line → Option (List (List ℕ)) → Results → Results
@@ -174,3 +178,80 @@ some-told (Err fault) parts which line lines h = absurd cc
 pub some-made : (text : List ℕ) (parts : List Part) (which : Which) (line : List ℕ) (lines : List Line) →
     Some lines ≡ option_map (map plain_line) (made_of text parts which line) → 0 < length lines
 some-made text parts which line lines h = some-told (pattern text) parts which line lines h
+
+-- a line without a match stays as it is
+none-first : (again : ℕ → Bool → List Found) (b : Bool) → ◌≡◌ {A = List Found} (elim b [ true ↦ taken_first again 0 false None | false ↦ [] ]) []
+none-first again true = refl
+none-first again false = refl
+
+none-taken : (tree : Tree) (line : List ℕ) → match_from tree line 0 ≡ None → taken tree line ≡ []
+none-taken tree line none =
+    let again = λ (place : ℕ) (full : Bool). taken_from (length line) tree line place full in
+    ap (λ m. elim (nat_le 0 (length line)) [ true ↦ taken_first again 0 false m | false ↦ [] ]) none
+    ∙ none-first again (nat_le 0 (length line))
+
+none-picked : (which : Which) → picked which [] ≡ []
+none-picked choice.First = refl
+none-picked (choice.Nth n) = ap (take 1) (drop_all n [] (omega arith))
+none-picked choice.All = refl
+
+pub none-made : (text : List ℕ) (tree : Tree) (parts : List Part) (which : Which) (line : List ℕ) → pattern text ≡ Ok tree →
+    match_from tree line 0 ≡ None → made_of text parts which line ≡ None
+none-made text tree parts which line h none =
+    ap (λ p. elim p [ Ok t ↦ substituted t parts which line | Err fault ↦ None ]) h
+    ∙ ap (λ ms. option_map split_at_newlines (replaced_in parts line (picked which ms))) (none-taken tree line none)
+    ∙ ap (λ ms. option_map split_at_newlines (replaced_in parts line ms)) (none-picked which)
+
+-- The first lines were rewritten, and the last line that came of them is this one, or each stayed.
+pub record Come (f : List ℕ → Option (List (List ℕ))) (a i : ℕ) (old now : List Line) (last : Option ℕ) : Type 0 where
+  pub put : now ≡ exchanged a i (each f (block a i old)).0 old
+  pub told : last ≡ option_map (λ n. a + n) (each f (block a i old)).1
+
+-- none was
+pub come-none : (f : List ℕ → Option (List (List ℕ))) (a i : ℕ) (old now : List Line) → i ≡ a → now ≡ old → Come f a i old now None
+come-none f a i old now begun same = subst (λ k. Come f a k old now None) (sym begun) (record {
+  put = same ∙ sym (ap (λ t. exchanged a a (each f t).0 old) (block-none a old) ∙ take-append-drop a old);
+  told = ap (λ t. option_map (λ n. a + n) (each f t).1) (sym (block-none a old));
+})
+
+-- one more stays
+pub come-stays : (f : List ℕ → Option (List (List ℕ))) (a i : ℕ) (old now : List Line) (last : Option ℕ) → a ≤ i → i < length old →
+    Come f a i old now last → None ≡ option_map (map plain_line) (f (get_or old i (plain_line [])).bytes) → Come f a (i + 1) old now last
+come-stays f a i old now last h inside come none =
+    let d = plain_line [] in
+    let r = each f (block a i old) in
+    let further = each-further f a i old d h inside ∙ with-none (get_or old i d) (f (get_or old i d).bytes) r none in
+    record {
+      put = come.put ∙ stayed a i r.0 old d inside ∙ ap (λ t. exchanged a (i + 1) t.0 old) (sym further);
+      told = come.told ∙ ap (λ t. option_map (λ n. a + n) t.1) (sym further);
+    }
+
+-- or is exchanged for others
+pub come-goes : (f : List ℕ → Option (List (List ℕ))) (a i place : ℕ) (old now new : List Line) (last : Option ℕ) → a ≤ i → i < length old →
+    Come f a i old now last → place ≡ a + length (each f (block a i old)).0 → Some new ≡ option_map (map plain_line) (f (get_or old i (plain_line [])).bytes) →
+    Come f a (i + 1) old (exchanged place (place + 1) new now) (Some (a + (length (each f (block a i old)).0 + length new)))
+come-goes f a i place old now new last h inside come at some =
+    let d = plain_line [] in
+    let r = each f (block a i old) in
+    let further = each-further f a i old d h inside ∙ with-new (get_or old i d) (f (get_or old i d).bytes) new r some in
+    record {
+      put = gone a i place r.0 new old now d h inside come.put at ∙ ap (λ t. exchanged a (i + 1) t.0 old) (sym further);
+      told = ap (λ t. option_map (λ n. a + n) t.1) (sym further);
+    }
+
+-- lines that stay are passed over
+come-past : (f : List ℕ → Option (List (List ℕ))) (a i n : ℕ) (old now : List Line) (last : Option ℕ) → a ≤ i → i + n ≤ length old →
+    ((j : ℕ) → i ≤ j → j < i + n → f (get_or old j (plain_line [])).bytes ≡ None) → Come f a i old now last → Come f a (i + n) old now last
+come-past f a i zero old now last h within none come = subst (λ k. Come f a k old now last) (let e : i ≡ i + 0 = omega arith in e) come
+come-past f a i (suc n) old now last h within none come =
+    let first = come-stays f a i old now last h (omega (arith, within)) come (sym (ap (option_map (map plain_line)) (none i (omega arith) (omega arith)))) in
+    let later = come-past f a (i + 1) n old now last (omega (arith, h)) (omega (arith, within)) (λ j low high. none j (omega (arith, low)) (omega (arith, high))) first in
+    subst (λ k. Come f a k old now last) (let e : i + 1 + n ≡ i + suc n = omega arith in e) later
+
+-- and so are those that don't match
+pub come-over : (text : List ℕ) (tree : Tree) (parts : List Part) (which : Which) (a i k : ℕ) (old now : List Line) (last : Option ℕ) → pattern text ≡ Ok tree →
+    a ≤ i → i ≤ k → k ≤ length old → NoneFrom tree (texts old) i k → Come (made_of text parts which) a i old now last → Come (made_of text parts which) a k old now last
+come-over text tree parts which a i k old now last is h order within none come =
+    let f = made_of text parts which in
+    subst (λ n. Come f a n old now last) (let e : i + (k - i) ≡ k = omega arith in e) (come-past f a i (k - i) old now last h (omega arith) (λ j low high.
+    ap f (text-at old j) ∙ none-made text tree parts which (get_or (texts old) j []) is (none j low (omega (arith, high)))) come)

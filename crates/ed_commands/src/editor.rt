@@ -12,9 +12,11 @@ ghost use Rattle.ed_commands.specs.declared.editor.Reply.TheVariants as reply;
 
 mod addressing;
 mod blocks;
+mod course;
 mod effects;
 mod entering;
 mod files;
+mod first_line;
 mod forms;
 mod globals;
 mod lines;

@@ -153,21 +153,26 @@ fn check_exchange<S: LineStore>(
     }
     let entering = file_block(alloc, new)?;
     assert!(rt; store.len() == count && count > 2);
-    let (texts, what) = match store.exchange_block(1, count - 1, entering) {
+    // One of the lines that go out has the flag, and one of those that stay.
+    if store.flag(1).is_err() || store.flag(count - 1).is_err() {
+        return Ok(());
+    }
+    let (texts, flags, what) = match store.exchange_block(1, count - 1, entering) {
         Ok(taken) => {
             let mut texts = bytes(rt, alloc, b"a\n");
             texts.extend_from_slice(new).expect(rt, "memory");
             texts.extend_from_slice(b"a\n").expect(rt, "memory");
             drop(taken);
-            (texts, "exchanged")
+            (texts, 1, "exchanged")
         }
         Err(back) => {
             let mut other = S::empty(alloc).expect(rt, "memory");
             assert!(rt; other.exchange_block(0, 0, back).is_ok());
             check_texts(rt, alloc, &other, new, "handed back");
-            (earlier, "as before")
+            (earlier, 2, "as before")
         }
     };
+    same(rt, store.flag_count(), flags, what);
     check_texts(rt, alloc, &store, texts.as_slice(), what);
     Ok(())
 }

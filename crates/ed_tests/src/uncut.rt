@@ -3,7 +3,7 @@ use crate::applying::{apply, loaded};
 use crate::asserting::same;
 use crate::expected::pattern;
 use crate::undoing::global;
-use crate::written::{change, check_all, repeated, store_of};
+use crate::written::{change, check_all, check_part, repeated, store_of};
 use ed_base::{Bytes, next_line};
 use ed_commands::Editor;
 use ed_syntax::Sense;
@@ -164,4 +164,155 @@ fn a_global_command_looks_at_each_of_many_lines_once(rt: HostRuntime) {
     let begun = editor.begin_global(&global).expect(&rt, "begun");
     drop(global);
     same(&rt, begun.lines, 1, "the lines that it takes");
+}
+
+/// A script, which line is current after it, how many there are, and how these lines read then, counted from 1.
+struct ThousandRow {
+    script: &'static [u8],
+    current: usize,
+    count: usize,
+    lines: &'static [usize],
+    text: &'static [u8],
+}
+
+// Of 5,000 lines each thousandth is `needle`, and the others are `ab`. A script begins at the last line, and what it touches is cut with all
+// lines before it: none, some of the chunks, one line of each, or all. Searches go from there on and round to the line where they began.
+#[rattlefmt::skip]
+static THOUSANDS: [ThousandRow; 17] = [
+    ThousandRow { script: b"/needle/p\n", current: 1000, count: 5000, lines: &[1000], text: b"needle\n" },
+    ThousandRow { script: b"2500s/a/x/\n/needle/p\n", current: 3000, count: 5000, lines: &[2500], text: b"xb\n" },
+    ThousandRow { script: b"2500s/a/x/\n/x/p\n", current: 2500, count: 5000, lines: &[2500], text: b"xb\n" },
+    ThousandRow { script: b"2500s/a/x/\n2499\n/x/p\n", current: 2500, count: 5000, lines: &[2500], text: b"xb\n" },
+    ThousandRow { script: b"2500s/a/x/\n4900\n/x/p\n", current: 2500, count: 5000, lines: &[2500], text: b"xb\n" },
+    ThousandRow { script: b"2500s/a/x/\n3072\n/needle/p\n", current: 4000, count: 5000, lines: &[3072, 3073], text: b"ab\n" },
+    ThousandRow { script: b"2500s/a/x/\n2999\n/needle/p\n", current: 3000, count: 5000, lines: &[2999, 3001], text: b"ab\n" },
+    ThousandRow { script: b"4000\n/needle/p\n/needle/p\n", current: 1000, count: 5000, lines: &[5000], text: b"needle\n" },
+    ThousandRow { script: b"3000\n?needle?p\n", current: 2000, count: 5000, lines: &[2000], text: b"needle\n" },
+    ThousandRow { script: b"1,$s/needle/y/\n", current: 5000, count: 5000, lines: &[1000, 2000, 3000, 4000, 5000], text: b"y\n" },
+    ThousandRow { script: b"1500s/a/x/\n1,$s/e/y/2\n", current: 5000, count: 5000, lines: &[1000, 2000, 3000, 4000, 5000], text: b"neydle\n" },
+    ThousandRow { script: b"1500s/b/x/\n3500s/b/x/\n1001,$s/b/y/\n", current: 4999, count: 5000, lines: &[1001, 1999, 3001, 4999], text: b"ay\n" },
+    ThousandRow { script: b"1500s/b/x/\n1000,3000s/needle/y/\n", current: 3000, count: 5000, lines: &[1000, 2000, 3000], text: b"y\n" },
+    ThousandRow { script: b"1,$s/needle/y\\\nz/\n", current: 5005, count: 5005, lines: &[1000, 2001, 3002, 4003, 5004], text: b"y\n" },
+    ThousandRow { script: b"1500s/b/x/\n1,$s/[b-m]l/b/\n", current: 5000, count: 5000, lines: &[1000, 2000, 3000, 4000, 5000], text: b"neebe\n" },
+    ThousandRow { script: b"500s/a/x/\n1500s/a/x/\n2500s/a/x/\n3500s/a/x/\n4500s/a/x/\n1,$s/x/y/\n", current: 4500, count: 5000, lines: &[500, 1500, 2500, 3500, 4500], text: b"yb\n" },
+    ThousandRow { script: b"1,$s/c*/x/\n", current: 5000, count: 5000, lines: &[1, 1024, 1025, 4999], text: b"xab\n" },
+];
+
+fn thousands<S: LineStore>(rt: &impl Abort, alloc: Global) -> Editor<S> {
+    let mut thousand = repeated(alloc, 999, b"ab\n").expect(rt, "memory");
+    thousand.extend_from_slice(b"needle\n").expect(rt, "memory");
+    let file = repeated(alloc, 5, thousand.as_slice()).expect(rt, "memory");
+    loaded(rt, alloc, file.as_slice())
+}
+
+fn check_thousands<S: LineStore>(rt: &impl Abort, alloc: Global) {
+    for row in &THOUSANDS {
+        let mut editor = thousands::<S>(rt, alloc);
+        apply(rt, alloc, &mut editor, row.script);
+        let found = (editor.current(), editor.lines().len());
+        same(rt, found, (row.current, row.count), row.script);
+        for line in row.lines {
+            assert!(rt; *line > 0);
+            check_part(rt, alloc, editor.lines(), *line - 1, *line, row.text);
+        }
+    }
+}
+
+#[test]
+fn searches_and_substitutions_pass_over_lines_in_a_vector(rt: HostRuntime) {
+    check_thousands::<PlainStore>(&rt, rt.alloc());
+}
+
+#[test]
+fn searches_and_substitutions_pass_over_lines_about_a_gap(rt: HostRuntime) {
+    check_thousands::<GapStore>(&rt, rt.alloc());
+}
+
+#[test]
+fn searches_and_substitutions_pass_over_lines_in_chunks(rt: HostRuntime) {
+    check_thousands::<ChunkStore>(&rt, rt.alloc());
+}
+
+// Empty lines stand before those that match, after 3,000 others.
+static EMPTY_LINES: &[u8] = b"\n\nneedle\n\nneedle\n";
+
+fn check_after_empty_lines<S: LineStore>(rt: &impl Abort, alloc: Global) {
+    let mut file = repeated(alloc, 3000, b"ab\n").expect(rt, "memory");
+    file.extend_from_slice(EMPTY_LINES).expect(rt, "memory");
+    let mut editor: Editor<S> = loaded(rt, alloc, file.as_slice());
+    apply(rt, alloc, &mut editor, b"/needle/p\n");
+    same(rt, editor.current(), 3003, EMPTY_LINES);
+    let mut other: Editor<S> = loaded(rt, alloc, file.as_slice());
+    apply(rt, alloc, &mut other, b"1,$s/needle/x/\n");
+    let count = other.lines().len();
+    same(rt, (other.current(), count), (3005, 3005), EMPTY_LINES);
+    assert!(rt; count == 3005);
+    check_part(rt, alloc, other.lines(), 3000, count, b"\n\nx\n\nx\n");
+}
+
+#[test]
+fn lines_after_empty_ones_are_found_in_a_vector(rt: HostRuntime) {
+    check_after_empty_lines::<PlainStore>(&rt, rt.alloc());
+}
+
+#[test]
+fn lines_after_empty_ones_are_found_about_a_gap(rt: HostRuntime) {
+    check_after_empty_lines::<GapStore>(&rt, rt.alloc());
+}
+
+#[test]
+fn lines_after_empty_ones_are_found_in_chunks(rt: HostRuntime) {
+    check_after_empty_lines::<ChunkStore>(&rt, rt.alloc());
+}
+
+/// A script, the pattern of a global command after it, and how many lines that takes and which come first.
+struct TakenRow {
+    script: &'static [u8],
+    sense: Sense,
+    pattern: &'static [u8],
+    count: usize,
+    lines: &'static [usize],
+}
+
+#[rattlefmt::skip]
+static TAKEN: [TakenRow; 8] = [
+    TakenRow { script: b"", sense: Sense::Matching, pattern: b"needle", count: 5, lines: &[1000, 2000, 3000, 4000, 5000] },
+    TakenRow { script: b"1500s/a/x/\n", sense: Sense::Matching, pattern: b"needle", count: 5, lines: &[1000, 2000, 3000, 4000, 5000] },
+    TakenRow { script: b"1,$s/b$/c/\n", sense: Sense::Matching, pattern: b"needle", count: 5, lines: &[1000, 2000, 3000, 4000, 5000] },
+    TakenRow { script: b"1500s/a/x/\n3500s/a/x/\n", sense: Sense::Matching, pattern: b"x", count: 2, lines: &[1500, 3500] },
+    TakenRow { script: b"1500s/a/x/\n", sense: Sense::Others, pattern: b"b", count: 5, lines: &[1000, 2000, 3000, 4000, 5000] },
+    TakenRow { script: b"1500s/a/x/\n", sense: Sense::Matching, pattern: b"^[ax]", count: 4995, lines: &[1, 2, 3] },
+    TakenRow { script: b"1500s/a/x/\n", sense: Sense::Matching, pattern: b"q", count: 0, lines: &[] },
+    TakenRow { script: b"1500s/a/x/\n", sense: Sense::Matching, pattern: b"n.*[d-e]l", count: 5, lines: &[1000, 2000, 3000, 4000, 5000] },
+];
+
+fn check_taken<S: LineStore>(rt: &impl Abort, alloc: Global) {
+    for row in &TAKEN {
+        let mut editor = thousands::<S>(rt, alloc);
+        apply(rt, alloc, &mut editor, row.script);
+        let global = global(alloc, row.sense, pattern(rt, alloc, row.pattern));
+        let begun = editor.begin_global(&global).expect(rt, "begun");
+        drop(global);
+        same(rt, begun.lines, row.count, row.pattern);
+        drop(begun);
+        for line in row.lines {
+            assert!(rt; editor.next_global());
+            same(rt, editor.current(), *line, row.pattern);
+        }
+    }
+}
+
+#[test]
+fn a_global_command_passes_over_lines_in_a_vector(rt: HostRuntime) {
+    check_taken::<PlainStore>(&rt, rt.alloc());
+}
+
+#[test]
+fn a_global_command_passes_over_lines_about_a_gap(rt: HostRuntime) {
+    check_taken::<GapStore>(&rt, rt.alloc());
+}
+
+#[test]
+fn a_global_command_passes_over_lines_in_chunks(rt: HostRuntime) {
+    check_taken::<ChunkStore>(&rt, rt.alloc());
 }

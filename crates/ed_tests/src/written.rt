@@ -18,7 +18,7 @@ pub(crate) fn store_of<S: LineStore>(alloc: Global, file: &[u8]) -> Result<S, Al
 }
 
 /// What is written of the lines from place `from` up to `to` is this.
-fn check_part<S: LineStore>(
+pub(crate) fn check_part<S: LineStore>(
     rt: &impl Abort,
     alloc: Global,
     store: &S,

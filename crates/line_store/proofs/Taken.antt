@@ -303,7 +303,7 @@ unflagged-past place from to next new lines h k m bare far none i l =
     (cases_lt i from)
 
 -- letters change no text
-texts-lettered : (marks : List (Option ℕ)) (place : ℕ) (lines : List Line) → texts (lettered marks place lines) ≡ texts lines
+pub texts-lettered : (marks : List (Option ℕ)) (place : ℕ) (lines : List Line) → texts (lettered marks place lines) ≡ texts lines
 texts-lettered marks place [] = refl
 texts-lettered marks place (line ∷ lines) = ap (λ t. line.bytes ∷ t) (texts-lettered marks (suc place) lines)
 

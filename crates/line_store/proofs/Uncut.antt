@@ -1,7 +1,7 @@
 -- Lines that are cut, and after them lines that aren't.
-use Rattle.std.proofs.Common.{◌≡◌, ◌≢◌, ℕ, zero, suc, ◌+◌, ◌-◌, ◌<◌, ◌≤◌, List, [], ◌∷◌, ◌++◌, Bool, false, Option, Some, None, min, take, drop, length, map, get_or, set, refl, sym, ap, ◌∙◌, arith, append_assoc, append-nil, ⊎_elim}
+use Rattle.std.proofs.Common.{◌≡◌, ◌≢◌, ℕ, zero, suc, ◌+◌, ◌-◌, ◌<◌, ◌≤◌, List, [], ◌∷◌, ◌++◌, Bool, false, Option, Some, None, min, take, drop, length, map, get_or, set, refl, sym, ap, ◌∙◌, arith, append_assoc, append-nil, subst, ⊎_elim}
 use Rattle.std.proofs.lemmas.Bool.{cases_lt}
-use Rattle.std.proofs.lemmas.List.{take-append-le, take_all, take_more, drop_all, drop-drop, drop-map, length-append, length-map, map-append, take-map, get_or_append_left, get_or-append_right, get_or-drop, set-get_or, set-append_left}
+use Rattle.std.proofs.lemmas.List.{take-append-le, take_all, take_more, drop_all, drop_at, drop-drop, drop-map, length-append, length-map, map-append, take-map, get_or_append_left, get_or-append_right, get_or-drop, set-get_or, set-append_left}
 use Rattle.std.proofs.lemmas.List.Elements.{All-append, All-same, All-take, All-drop}
 use Rattle.ed_base.specs.Buffer.{Line, flagged_at, plain_line, texts, with_flag}
 use Rattle.ed_base.specs.Lines.{newline, AreLines, IsLine, bytes_of, lines_of}
@@ -196,3 +196,26 @@ first-none from all lines rest h e none = record {
       (cases_lt i (length lines));
   flagged = λ k. absurd (omega (arith, k, e));
 }
+
+-- those that are left come after the others
+record After (n : ℕ) (lines : List (List ℕ)) (left : List (List ℕ)) : Type 0 where
+  within : n ≤ length lines
+  same : drop n lines ≡ left
+
+after-cut : (n : ℕ) (cut : List Line) (left : List (List ℕ)) → n ≡ length cut → After n (texts (cut ++ map plain_line left)) left
+after-cut n cut left is =
+    let both : texts (cut ++ map plain_line left) ≡ texts cut ++ left =
+    map-append (λ (l : Line). l.bytes) cut (map plain_line left) ∙ ap (λ t. texts cut ++ t) (texts-plain left) in
+    let long : length (texts cut) ≡ length cut = length-map cut (λ (l : Line). l.bytes) in
+    record {
+      within = omega (arith, ap length both, length-append (texts cut) left, long);
+      same = ap (drop n) both ∙ drop_at (texts cut) left n (omega (arith, long));
+    }
+
+-- so they stand uncut
+pub stand-uncut : (n : ℕ) (file : List ℕ) (cut lines : List Line) → n ≡ length cut → cut ++ map plain_line (lines_of file) ≡ lines →
+    (n ≤ length (texts lines)) × (drop n (texts lines) ≡ lines_of file)
+stand-uncut n file cut lines is all =
+    let a = after-cut n cut (lines_of file) is in
+    let P : List Line → Type 0 = λ t. (n ≤ length (texts t)) × (drop n (texts t) ≡ lines_of file) in
+    subst P all (a.within, a.same)

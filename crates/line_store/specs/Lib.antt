@@ -4,6 +4,7 @@ pub mod Swaps
 pub mod Flagged
 pub mod Blocks
 pub mod Cut
+pub mod Uncut
 pub mod Kept
 -- what serves clauses inside the crate
 pub mod Shifts

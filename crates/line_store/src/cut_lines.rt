@@ -1,5 +1,5 @@
 //! Lines that are cut when they are touched.
-ghost use Rattle.std.specs.Prelude.{◌≡◌, ◌-◌, ◌<◌, ◌≤◌, ◌++◌, [], false, true, length, map, slice_index_or, slice_set, IfErr, IfOk, OnErr, OnOk};
+ghost use Rattle.std.specs.Prelude.{◌≡◌, ◌-◌, ◌<◌, ◌≤◌, ◌++◌, [], false, true, length, map, slice_index_or, slice_set, IfErr, IfOk, IfSome, OnErr, OnOk};
 ghost use Rattle.ed_base.specs.Buffer.{flagged_at, plain_line, texts};
 ghost use Rattle.ed_base.specs.Lines.{AreLines, IsLine, bytes_of, lines_of};
 ghost use Rattle.ed_base.specs.Parts.{block};
@@ -8,10 +8,11 @@ ghost use Rattle.line_store.specs.Cut.{all_lines};
 ghost use Rattle.line_store.specs.Flagged.{FirstFlagged};
 ghost use Rattle.line_store.specs.Kept.{flag_count};
 ghost use Rattle.line_store.specs.Swaps.{swapped};
+ghost use Rattle.line_store.specs.Uncut.{StandUncut};
 
 use crate::blocks::{exchange_lines, flags_among};
 use crate::swaps::swap_blocks;
-use crate::{BareLine, BareLines, Block, FileLines};
+use crate::{BareLine, BareLines, Block, FileLines, UncutLines};
 use ed_base::Pieces;
 use std::alloc::{AllocError, Global};
 use std::marker::Model;
@@ -48,6 +49,19 @@ impl<L: BareLines> CutLines<L> {
             rest: None,
             left: 0,
         })
+    }
+
+    /// The lines that aren't cut, where there are some.
+    pub(crate) fn uncut(&self) -> Result<Option<UncutLines>, AllocError>
+        ensures texts { IfOk result (λ uncut. IfSome uncut (StandUncut (texts (all_lines self.now)))) }
+    {
+        match &self.rest {
+            Some(file) => Ok(Some(UncutLines {
+                before: self.cut.len(),
+                file: file.try_copy()?,
+            })),
+            None => Ok(None),
+        }
     }
 
     /// How many lines there are.

@@ -8,7 +8,7 @@ ghost use Rattle.line_store.specs.Swaps.{swapped};
 use crate::cut_lines::CutLines;
 use crate::flag_counts::flags_exchanged;
 use crate::marks::Marks;
-use crate::{BareLine, BareLines, Block, Line, LineStore};
+use crate::{BareLine, BareLines, Block, Line, LineStore, UncutLines};
 use ed_base::{Letter, Pieces};
 use std::alloc::{AllocError, Global};
 use std::marker::Model;
@@ -139,6 +139,10 @@ impl<L: BareLines> LineStore for Store<L> {
 
     fn open(&mut self, to: usize) -> Result<(), AllocError> {
         self.lines.open(to.min(self.lines.len()))
+    }
+
+    fn uncut(&self) -> Result<Option<UncutLines>, AllocError> {
+        self.lines.uncut()
     }
 
     fn push_lines(&self, from: usize, to: usize, output: &mut Pieces) -> Result<(), AllocError> {

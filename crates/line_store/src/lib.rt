@@ -28,4 +28,4 @@ pub use kept::{PlainStore, Store};
 pub use line::Line;
 pub use marks::Marks;
 pub use shared::{BareLine, FileLines};
-pub use store::LineStore;
+pub use store::{LineStore, UncutLines};

@@ -264,6 +264,13 @@ impl FileLines {
         })
     }
 
+    /// The bytes of the lines that are still to come.
+    pub fn as_slice(&self) -> &[u8]
+        ensures value { result.now ≡ self.now }
+    {
+        &self.block.as_slice()[self.next..]
+    }
+
     /// How many lines there are. Their newlines are counted, and no line is cut.
     pub(crate) fn count(&self) -> usize
         ensures value { result ≡ length (lines_of self.now) }

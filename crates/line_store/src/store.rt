@@ -1,13 +1,22 @@
 //! A list of lines, however it is kept.
-ghost use Rattle.std.specs.Prelude.{◌≡◌, ◌+◌, ◌-◌, ◌<◌, ◌≤◌, ◌++◌, List, [], true, false, count_by, length, remove, slice_index_or, slice_set, map, IfOk, IfErr, OnOk, OnErr};
+ghost use Rattle.std.specs.Prelude.{◌≡◌, ◌+◌, ◌-◌, ◌<◌, ◌≤◌, ◌++◌, List, [], true, false, count_by, length, remove, slice_index_or, slice_set, map, IfOk, IfErr, IfSome, OnOk, OnErr};
 ghost use Rattle.ed_base.specs.Lines.{AreLines, IsLine, bytes_of};
 ghost use Rattle.ed_base.specs.Buffer.{Line, plain_line, marked_at, marked_place, texts, flagged_at, flagged_place, AtMostOnce, KnowLetters, SharesNoLetter};
 ghost use Rattle.ed_base.specs.Parts.{block, carried, exchanged};
 ghost use Rattle.line_store.specs.Marks.{lettered};
+ghost use Rattle.line_store.specs.Uncut.{StandUncut};
 
-use crate::{Block, Line, Marks};
+use crate::{Block, FileLines, Line, Marks};
 use ed_base::{Letter, Pieces};
 use std::alloc::{AllocError, Global};
+
+/// The lines of a store from a place on, which aren't cut yet, in their file.
+#[derive(Drop)]
+pub struct UncutLines {
+    /// How many lines stand before them.
+    pub before: usize,
+    pub file: FileLines,
+}
 
 /// A list of lines, of which a letter marks one at most. Places count from 0.
 pub trait LineStore: Drop {
@@ -32,6 +41,10 @@ pub trait LineStore: Drop {
     /// all lines before it. The lines are the same.
     fn open(&mut self, to: usize) -> Result<(), AllocError>
         ensures unchanged { lines self.new ≡ lines self.old };
+
+    /// The lines that aren't cut, where there are some. An `Err` comes only where more share their bytes than can be counted.
+    fn uncut(&self) -> Result<Option<UncutLines>, AllocError>
+        ensures texts { IfOk result (λ uncut. IfSome uncut (StandUncut (texts (lines self.now)))) };
 
     /// Appends the bytes of the lines from place `from` up to `to`, each with a newline. They are shared with the lines as far as
     /// their blocks have them.

@@ -1,8 +1,11 @@
 //! Global commands: the lines that they take, and what comes before and after their lists (XCU ed, "Global Command", "Global
 //! Non-Matched Command").
-ghost use Rattle.std.specs.Prelude.{◌≡◌, ◌+◌, ◌-◌, ◌<◌, ◌≤◌, None, Err, length, map, is_some, unwrap_or, IfSome, IsTrue, OnErr, OnOk};
+ghost use Rattle.std.specs.Prelude.{ℕ, List, ◌≡◌, ◌+◌, ◌-◌, ◌<◌, ◌≤◌, None, Ok, Err, count_by, length, map, is_some, unwrap_or, IfSome, IsTrue, OnErr, OnOk};
+ghost use Rattle.bre_parse.specs.Grammar.{pattern as pattern_of};
+ghost use Rattle.bre_match.specs.Searchers.{searched};
 ghost use Rattle.ed_base.specs.Buffer.{flagged_at};
 ghost use Rattle.ed_base.specs.Parts.{block, exchanged};
+ghost use Rattle.ed_syntax.specs.declared.command.Sense.TheVariants as sense;
 ghost use Rattle.ed_syntax.specs.PublicTypes.{command_value};
 ghost use Rattle.ed_syntax.specs.meaning.States.{last};
 ghost use Rattle.ed_syntax.specs.meaning.Applied as applied;
@@ -13,7 +16,9 @@ ghost use Rattle.ed_commands.specs.Editors.{Begins, Tells, failure_of, span_valu
 
 use crate::editor::Editor;
 use crate::editor::addressing::Span;
+use crate::editor::course::{Course, uncut_lines};
 use crate::editor::remembered::Remembered;
+use bre_match::Searcher;
 use ed_base::{Fault, Pieces};
 use ed_syntax::{Command, Pattern, Sense};
 use line_store::{LineStore, Marks};
@@ -51,7 +56,57 @@ fn set_flag<S: LineStore>(i: usize, flag: bool, store: &mut S) -> Result<(), All
     Ok(())
 }
 
+/// Flags those lines of a block that match, where no line has the flag. Lines that aren't cut are cut only up to the last one that does.
+fn flag_matching<S: LineStore>(
+    searcher: &mut Searcher<'_>,
+    from: usize,
+    to: usize,
+    store: &mut S,
+) -> Result<(), AllocError>
+    requires order { from ≤ to }
+    requires last { to ≤ length (S.lines store.old) }
+    requires unflagged { count_by (λ line. line.flag) (S.lines store.old) ≡ 0 }
+    ensures flagged { (text : List ℕ) → pattern_of text ≡ Ok (searched searcher.old) → OnOk result (S.lines store.new
+        ≡ exchanged from to (map (flagged_line sense.Matching text) (block from to (S.lines store.old))) (S.lines store.old)) }
+    ensures count { length (S.lines store.new) ≡ length (S.lines store.old) }
+    ensures pattern { searched searcher.new ≡ searched searcher.old }
+{
+    let uncut = uncut_lines(from, to, store)?;
+    let word = searcher.needed_word();
+    let mut course = Course::of(&uncut, &word, from, to, store);
+    'lines: while let Some(line) = course.next_line() {
+        let matched = searcher.matches(line.text_in(line.place, store))?;
+        if matched {
+            store.flag(line.place)?;
+        }
+    }
+    Ok(())
+}
+
 /// Flags those lines of a block that are taken, and takes the flag of the others.
+fn flag_each<S: LineStore>(
+    sense: Sense,
+    searcher: &mut Searcher<'_>,
+    from: usize,
+    to: usize,
+    store: &mut S,
+) -> Result<(), AllocError>
+    requires order { from ≤ to }
+    requires last { to ≤ length (S.lines store.old) }
+    ensures flagged { (text : List ℕ) → pattern_of text ≡ Ok (searched searcher.old) → OnOk result (S.lines store.new
+        ≡ exchanged from to (map (flagged_line sense text) (block from to (S.lines store.old))) (S.lines store.old)) }
+    ensures count { length (S.lines store.new) ≡ length (S.lines store.old) }
+    ensures pattern { searched searcher.new ≡ searched searcher.old }
+{
+    store.open(to)?;
+    for i in from..to {
+        let matched = searcher.matches(store.text(i))?;
+        set_flag(i, is_wanted(sense, matched), store)?;
+    }
+    Ok(())
+}
+
+/// The same, by a pattern.
 fn flag_block<S: LineStore>(
     alloc: Global,
     sense: Sense,
@@ -67,12 +122,13 @@ fn flag_block<S: LineStore>(
     ensures count { length (S.lines store.new) ≡ length (S.lines store.old) }
     ensures kept { pattern.new ≡ pattern.old }
 {
-    store.open(to)?;
     let learned = pattern.take_learned(alloc);
     let mut searcher = pattern.searcher(learned);
-    for i in from..to {
-        let matched = searcher.matches(store.text(i))?;
-        set_flag(i, is_wanted(sense, matched), store)?;
+    match sense {
+        Sense::Matching if store.flag_count() == 0 => {
+            flag_matching(&mut searcher, from, to, store)?;
+        }
+        _ => flag_each(sense, &mut searcher, from, to, store)?,
     }
     let learned = searcher.leave();
     pattern.put_back(learned);

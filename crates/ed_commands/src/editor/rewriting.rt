@@ -11,6 +11,7 @@ ghost use Rattle.ed_commands.specs.Rewriting.{earlier_of_rewritten};
 
 use crate::editor::addressing::Span;
 use crate::editor::blocks::{exchange, split_text};
+use crate::editor::course::{Course, uncut_lines};
 use crate::editor::past::{Before, Change, Past};
 use crate::editor::remembered::Remembered;
 use crate::substitution::rewritten;
@@ -66,14 +67,16 @@ pub fn rewrite_lines<S: LineStore>(
     ensures remembered { pattern.new ≡ pattern.old }
 {
     let count = store.len();
-    store.open(span.last)?;
+    let uncut = uncut_lines(span.first - 1, span.last, store)?;
     let mut made = None;
     let learned = pattern.take_learned(alloc);
     let mut searcher = pattern.searcher(learned);
-    for i in span.first - 1..span.last {
+    let word = searcher.needed_word();
+    let mut course = Course::of(&uncut, &word, span.first - 1, span.last, store);
+    'lines: while let Some(line) = course.next_line() {
         // The lines after this one are as they were, so that its place is counted from the end.
-        let place = store.len() - (count - i);
-        let text = store.text(place);
+        let place = store.len() - (count - line.place);
+        let text = line.text_in(place, store);
         let new = new_lines_of(alloc, &mut searcher, replacement, which, text)?;
         let Some(lines) = new else {
             continue;
@@ -82,7 +85,7 @@ pub fn rewrite_lines<S: LineStore>(
             past.begin(before, store);
         }
         rewrite_line(alloc, place, lines, store, past)?;
-        made = Some(store.len() - (count - i - 1));
+        made = Some(store.len() - (count - line.place - 1));
     }
     let learned = searcher.leave();
     pattern.put_back(learned);

@@ -1,13 +1,15 @@
 //! Searches for a line that a pattern matches (XCU ed, "Addresses in ed").
-ghost use Rattle.std.specs.Prelude.{ℕ, List, ◌≡◌, ◌≤◌, Ok, Some, length, find, IsTrue, IfOk, OnErr, OnOk};
+ghost use Rattle.std.specs.Prelude.{ℕ, List, ◌≡◌, ◌+◌, ◌-◌, ◌≤◌, Ok, Some, length, find, IsTrue, IfOk, OnErr, OnOk};
 ghost use Rattle.bre_parse.specs.Grammar.{pattern as pattern_of};
 ghost use Rattle.bre_match.specs.Searchers.{searched as searched_by};
 ghost use Rattle.ed_base.specs.Buffer.{Line};
-ghost use Rattle.ed_syntax.specs.meaning.Values.{matches_line, searched, sought};
+ghost use Rattle.ed_syntax.specs.meaning.Values.{count_from, matches_line, searched, sought};
 ghost use Rattle.ed_commands.specs.Editors.{TellsLine, SameButPattern, with_pattern};
 ghost use Rattle.ed_commands.specs.Searches.{around, line_after, lines_in};
+ghost use Rattle.ed_commands.specs.declared.editor.searching.Direction.TheVariants as to;
 
 use crate::editor::Editor;
+use crate::editor::course::Course;
 use crate::editor::remembered::Remembered;
 use bre_match::Searcher;
 use ed_base::Fault;
@@ -20,24 +22,6 @@ use std::alloc::{AllocError, Global};
 pub enum Direction {
     Forward,
     Backward,
-}
-
-impl Direction {
-    /// The line that a search looks at after this one, in a buffer of so many lines.
-    fn line_after(self, line: usize, last: usize) -> usize
-        requires some { 1 ≤ last }
-        requires within { line ≤ last }
-        ensures value { result ≡ line_after self last line }
-        ensures first { 1 ≤ result }
-        ensures within { result ≤ last }
-    {
-        match self {
-            Direction::Forward if last <= line => 1,
-            Direction::Forward => line + 1,
-            Direction::Backward if line <= 1 => last,
-            Direction::Backward => line - 1,
-        }
-    }
 }
 
 /// The first line that the pattern matches, where a search goes once round from line `from`, which it looks at last.
@@ -55,29 +39,85 @@ fn first_match<S: LineStore>(
 {
     let learned = pattern.take_learned(alloc);
     let mut searcher = pattern.searcher(learned);
-    let found = first_match_of(&mut searcher, direction, from, store);
+    let found = match direction {
+        Direction::Forward => first_after(&mut searcher, from, store),
+        Direction::Backward => first_before(&mut searcher, from, store),
+    };
     let learned = searcher.leave();
     pattern.put_back(learned);
     found
 }
 
-/// The same for the pattern of a searcher.
-fn first_match_of<S: LineStore>(
+/// The first line that matches, of those after line `from` and then of those up to it.
+fn first_after<S: LineStore>(
     searcher: &mut Searcher<'_>,
-    direction: Direction,
     from: usize,
     store: &S,
 ) -> Result<Option<usize>, AllocError>
     requires from { from ≤ length (S.lines store.now) }
     ensures value { (text : List ℕ) → pattern_of text ≡ Ok (searched_by searcher.old) →
         let last = length (S.lines store.now) in IfOk result (λ found.
-        found ≡ find (matches_line text (S.lines store.now)) (around (line_after direction last) from last)) }
+        found ≡ find (matches_line text (S.lines store.now)) (around (line_after to.Forward last) from last)) }
+    ensures pattern { searched_by searcher.new ≡ searched_by searcher.old }
+{
+    match first_between(searcher, from, store.len(), store)? {
+        Some(line) => Ok(Some(line)),
+        None => first_between(searcher, 0, from, store),
+    }
+}
+
+/// The first line that matches, of those after line `from` up to line `to`.
+fn first_between<S: LineStore>(
+    searcher: &mut Searcher<'_>,
+    from: usize,
+    to: usize,
+    store: &S,
+) -> Result<Option<usize>, AllocError>
+    requires order { from ≤ to }
+    requires last { to ≤ length (S.lines store.now) }
+    ensures value { (text : List ℕ) → pattern_of text ≡ Ok (searched_by searcher.old) → IfOk result (λ found.
+        found ≡ find (matches_line text (S.lines store.now)) (count_from (from + 1) (to - from))) }
+    ensures pattern { searched_by searcher.new ≡ searched_by searcher.old }
+{
+    let uncut = store.uncut()?;
+    let word = searcher.needed_word();
+    let mut course = Course::of(&uncut, &word, from, to, store);
+    'lines: while let Some(line) = course.next_line() {
+        let matched = searcher.matches(line.text_in(line.place, store))?;
+        if matched {
+            return Ok(Some(line.place + 1));
+        }
+    }
+    Ok(None)
+}
+
+/// The line that a backward search looks at after this one, in a buffer of so many lines.
+fn line_before(line: usize, last: usize) -> usize
+    requires some { 1 ≤ last }
+    requires within { line ≤ last }
+    ensures value { result ≡ line_after to.Backward last line }
+    ensures first { 1 ≤ result }
+    ensures within { result ≤ last }
+{
+    if line <= 1 { last } else { line - 1 }
+}
+
+/// The first line that matches, of those before line `from`, the last one first, and then of the others.
+fn first_before<S: LineStore>(
+    searcher: &mut Searcher<'_>,
+    from: usize,
+    store: &S,
+) -> Result<Option<usize>, AllocError>
+    requires from { from ≤ length (S.lines store.now) }
+    ensures value { (text : List ℕ) → pattern_of text ≡ Ok (searched_by searcher.old) →
+        let last = length (S.lines store.now) in IfOk result (λ found.
+        found ≡ find (matches_line text (S.lines store.now)) (around (line_after to.Backward last) from last)) }
     ensures pattern { searched_by searcher.new ≡ searched_by searcher.old }
 {
     let last = store.len();
     let mut line = from;
     for _ in 0..last {
-        line = direction.line_after(line, last);
+        line = line_before(line, last);
         let matched = searcher.matches(store.text(line - 1))?;
         if matched {
             return Ok(Some(line));
@@ -124,7 +164,13 @@ impl<S: LineStore> Editor<S> {
         ensures unchanged { SameButPattern self.old self.new }
     {
         self.remember(own)?;
-        self.open_lines(usize::MAX)?;
+        // Forward, the lines after the current one aren't cut for the search. After the last one it begins at the first.
+        let opened = match direction {
+            Direction::Forward if self.current == self.store.len() => 0,
+            Direction::Forward => self.current,
+            Direction::Backward => usize::MAX,
+        };
+        self.open_lines(opened)?;
         let Some(pattern) = &mut self.pattern else {
             return Err(Fault::Pattern);
         };
