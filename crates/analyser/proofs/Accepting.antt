@@ -18,9 +18,8 @@ use Rattle.cert_check.specs.checker.Covering.{covers}
 use Rattle.cert_check.specs.declared.checker.verdict.Verdict.TheVariants.{Accepted}
 use Rattle.cert_check.specs.Certificates.{Looped, Note, Certificate}
 use Rattle.cert_check.specs.checker.Beginning.{landmarks_of, chains_of, stated_chains, has_letters, letters_of_chains, began, start_of}
-use Rattle.cert_check.specs.checker.Valid.{Check, at, seen_by, sight_of, told, verdict_of, counted, has_quit, left_after, is_listed, knows_least, knows_most, end_checks, checks_from, fits_list, are_shaped, judged}
+use Rattle.cert_check.specs.checker.Valid.{Check, at, seen_by, sight_of, told, verdict_of, counted, has_quit, left_after, is_listed, knows_least, knows_most, end_checks, checks_from, fits_list, are_shaped, judged, entry_of}
 use Rattle.analyser.specs.declared.analysis.Start.{Start}
-use Rattle.analyser.specs.Rounds.{entered}
 use Rattle.analyser.specs.Following.{IsKnownOfList, AreNotes, result_from, paths_from, do_count, version_by, version_of, chains_by, chains_of_start, sight_over, end_fault, knowing, begun}
 use Rattle.analyser.specs.Analysis.{low_of, high_of, IsCertificate}
 use Rattle.analyser.proofs.Checking.{Laws, covers-same, notes-hold}
@@ -52,7 +51,7 @@ fits-known : (w : Sight) (global : Bool) (x : Step) (s : State) (l : Option Loop
 fits-known w false x s None h = refl
 fits-known w false x s (Some l) h = absurd h
 fits-known w true x s None h = absurd h
-fits-known w true x s (Some l) h = eq-eqb (length l.inner) (length x.list) (inner-length w x.list (entered w x l.invariant) l.inner h.1)
+fits-known w true x s (Some l) h = eq-eqb (length l.inner) (length x.list) (inner-length w x.list (entry_of w x l.invariant) l.inner h.1)
 
 shaped : (w : Sight) (xs : List Step) (s : State) (ns : List Note) → AreNotes w xs s ns → are_shaped xs ns ≡ true
 shaped w [] s [] h = refl

@@ -13,9 +13,9 @@ use Rattle.cert_check.specs.declared.sight.Sight.{Sight}
 use Rattle.cert_check.specs.checker.Covering.{covers}
 use Rattle.cert_check.specs.declared.checker.verdict.Place.{Place}
 use Rattle.cert_check.specs.Certificates.{Looped, Note}
-use Rattle.cert_check.specs.checker.Valid.{Check, at_place, command_at, inner_at, counted, are_met, left_by, left_after, is_listed, are_listed, command_checks, list_checks, looped_checks, step_checks, checks_from}
+use Rattle.cert_check.specs.checker.Valid.{Check, at_place, command_at, inner_at, counted, are_met, left_by, left_after, is_listed, are_listed, command_checks, list_checks, looped_checks, step_checks, checks_from, runs_once, turn_checks, entry_of}
 use Rattle.analyser.specs.declared.analysis.Start.{Start}
-use Rattle.analyser.specs.Rounds.{all_met, left_by_list, AreInner, InnerFail, entered, turned, round_invariant, IsSettled}
+use Rattle.analyser.specs.Rounds.{all_met, left_by_list, AreInner, InnerFail, turned, round_invariant, IsSettled}
 use Rattle.analyser.specs.Following.{IsKnownOfList, IsNote, NeedFails, AreNotes, NotesFail, result_from, list_paths, looped_paths, paths_from, sight_over, begun}
 use Rattle.analyser.specs.Analysis.{IsFailure}
 use Rattle.analyser.specs.Checked.{IsBefore, IsBeforeInside, ChecksHoldBefore}
@@ -53,6 +53,10 @@ not-or : (met covered : Bool) → met ≡ true → not met || covered ≡ true �
 not-or true covered e f = f
 not-or false covered e f = absurd cc
 
+or-second : (a b : Bool) → a ≡ false → (a || b) ≡ true → b ≡ true
+or-second true b e f = absurd cc
+or-second false b e f = f
+
 -- WHERE NO NEED FAILS
 
 -- of each check is asked what follows where it holds
@@ -78,17 +82,24 @@ module _ (k : Laws) (w : Sight) (P : Check → Type 0) (holds : (check : Check) 
       (list-holds number (inner + 1) turned_checks cs (left_by w c t) ts (subst (λ (u : State). AreInner w cs (left_by w c u) ts) same h.2) listed.1
       (subst (λ (u : State). All P (turned_checks (inner + 1 + length cs) (left_by_list w cs (left_by w c u)))) same (subst (λ n. All P (turned_checks n (left_by_list w cs (left_by w c s)))) z rest)))
 
+  turn-holds : (once : Bool) (place : Place) (invariant left : State) (later : List Check) → (once ≡ false → covers invariant left ≡ true) → All P later →
+      All P (turn_checks once place invariant left later)
+  turn-holds true place invariant left later covered rest = rest
+  turn-holds false place invariant left later covered rest = one-holds place (covers invariant left) later (covered refl) rest
+
   looped-holds : (number : ℕ) (global : Bool) (x : Step) (s : State) (l : Option Looped) (later : List Check) → IsKnownOfList w global x s l → list_all (is_listed writes) (looped_paths x.list l) ≡ true →
       All P later → All P (looped_checks w l number writes x s later)
   looped-holds number false x s None later h p rest = rest
   looped-holds number false x s (Some l) later h p rest = absurd h
   looped-holds number true x s None later h p rest = absurd h
   looped-holds number true x s (Some l) later h p rest =
-      let turned_checks : ℕ → State → List Check = λ (inner : ℕ) (left : State). at_place (inner_at number inner) (covers l.invariant left) ∷ later in
-      let covered : covers l.invariant (turned w x l.invariant) ≡ true =
-      not-or (all_met w x.list (entered w x l.invariant)) (covers l.invariant (turned w x l.invariant)) (inner-met w x.list (entered w x l.invariant) l.inner h.1) h.0.last in
-      one-holds (command_at number) (covers l.invariant (left_by w x.command s)) (list_checks w number 1 writes (entered w x l.invariant) x.list l.inner turned_checks) (settled-covers k w x (left_by w x.command s) l.invariant h.0)
-      (list-holds number 1 turned_checks x.list (entered w x l.invariant) l.inner h.1 p (one-holds (inner_at number (1 + length x.list)) (covers l.invariant (turned w x l.invariant)) later covered rest))
+      let once : Bool = runs_once w x l.invariant in
+      let turned_checks : ℕ → State → List Check = λ (inner : ℕ) (left : State). turn_checks once (inner_at number inner) l.invariant left later in
+      one-holds (command_at number) (covers l.invariant (left_by w x.command s)) (list_checks w number 1 writes (entry_of w x l.invariant) x.list l.inner turned_checks) (settled-covers k w x (left_by w x.command s) l.invariant h.0)
+      (list-holds number 1 turned_checks x.list (entry_of w x l.invariant) l.inner h.1 p
+      (turn-holds once (inner_at number (1 + length x.list)) l.invariant (turned w x l.invariant) later
+      (λ many. not-or (all_met w x.list (entry_of w x l.invariant)) (covers l.invariant (turned w x l.invariant)) (inner-met w x.list (entry_of w x l.invariant) l.inner h.1)
+      (or-second once _ many h.0.last)) rest))
 
   pub note-holds : (number : ℕ) (x : Step) (s : State) (n : Note) (later : List Check) → IsNote w x s n → list_all (is_listed writes) (written_paths x.command.verb n.state ++ looped_paths x.list n.looped) ≡ true →
       All P later → All P (step_checks w number writes x n s later)
@@ -141,6 +152,11 @@ module _ (k : Laws) (w : Sight) (place : Place) (writes : List (List ℕ)) where
   not-asked : (at : Place) (b : Bool) (later : List Check) → (IsBefore at place → ⊥) → All HoldsBefore later → All HoldsBefore (at_place at b ∷ later)
   not-asked at b later not rest = All-cons HoldsBefore (at_place at b) later (λ before. absurd (not before)) rest
 
+  turn-not-asked : (once : Bool) (at : Place) (invariant left : State) (later : List Check) → (IsBefore at place → ⊥) → All HoldsBefore later →
+      All HoldsBefore (turn_checks once at invariant left later)
+  turn-not-asked true at invariant left later not rest = rest
+  turn-not-asked false at invariant left later not rest = not-asked at (covers invariant left) later not rest
+
   command-not-asked : (at : Place) (c : Command) (known coming : State) (later : List Check) → (IsBefore at place → ⊥) → All HoldsBefore later → All HoldsBefore (command_checks at writes c known coming later)
   command-not-asked at c known coming later not rest =
       not-asked at (covers known coming) (at_place at (are_met c known) ∷ at_place at (are_listed writes c known) ∷ later) not
@@ -175,13 +191,14 @@ module _ (k : Laws) (w : Sight) (place : Place) (writes : List (List ℕ)) where
   need-fails (Some inner) number why x s None known later h same here is p rest = absurd h
   need-fails (Some inner) number why x s (Some l) known later h same here is p rest =
       let listed = append-all (is_listed writes) (written_paths x.command.verb known) (list_paths x.list l.inner) p in
-      let turned_checks : ℕ → State → List Check = λ (n : ℕ) (left : State). at_place (inner_at number n) (covers l.invariant left) ∷ later in
+      let once : Bool = runs_once w x l.invariant in
+      let turned_checks : ℕ → State → List Check = λ (n : ℕ) (left : State). turn_checks once (inner_at number n) l.invariant left later in
       let counts : inner ≡ length l.inner = h.number in
       command-holds k w HoldsBefore holds writes (command_at number) x.command known s (looped_checks w (Some l) number writes x known later) same (subst (λ (u : State). are_met x.command u ≡ true) (sym same) h.met) listed.0
-      (one-holds k w HoldsBefore holds writes (command_at number) (covers l.invariant (left_by w x.command known)) (list_checks w number 1 writes (entered w x l.invariant) x.list l.inner turned_checks)
+      (one-holds k w HoldsBefore holds writes (command_at number) (covers l.invariant (left_by w x.command known)) (list_checks w number 1 writes (entry_of w x l.invariant) x.list l.inner turned_checks)
       (subst (λ (u : State). covers l.invariant (left_by w x.command u) ≡ true) (sym same) (settled-covers k w x (left_by w x.command s) l.invariant h.settled))
-      (list-fails number 1 inner turned_checks why x.list (entered w x l.invariant) l.inner h.states here is (omega arith) listed.1
-      (λ n u more. not-asked (inner_at number n) (covers l.invariant u) later (not-before-inner number n (Some inner) place here is (λ m e. let same : inner ≡ m = cc in omega arith)) rest)))
+      (list-fails number 1 inner turned_checks why x.list (entry_of w x l.invariant) l.inner h.states here is (omega arith) listed.1
+      (λ n u more. turn-not-asked once (inner_at number n) l.invariant u later (not-before-inner number n (Some inner) place here is (λ m e. let same : inner ≡ m = cc in omega arith)) rest)))
 
   notes-fail : (inner : Option ℕ) (number : ℕ) (why : Fault) (s : State) (xs : List Step) (ns : List Note) → NotesFail w inner why xs s ns → place.command + 1 ≡ number + length ns → place.inner ≡ inner →
       list_all (is_listed writes) (paths_from xs ns) ≡ true → All HoldsBefore (checks_from w writes (λ number left. []) number s xs ns)

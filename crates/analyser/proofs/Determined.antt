@@ -11,11 +11,11 @@ use Rattle.ed_rules.specs.Choices.{Choice}
 use Rattle.cert_check.specs.declared.sight.Sight.{Sight}
 use Rattle.cert_check.specs.declared.checker.verdict.Place.{Place}
 use Rattle.cert_check.specs.Certificates.{Looped, Note, Certificate}
-use Rattle.cert_check.specs.checker.Valid.{counted, has_quit, are_met, left_by, left_after}
+use Rattle.cert_check.specs.checker.Valid.{counted, has_quit, are_met, left_by, left_after, entry_of}
 use Rattle.cert_check.proofs.texts.Unambiguous.{looped-by, note-by}
 use Rattle.cert_check.proofs.texts.OneText.{certificate-by}
 use Rattle.analyser.specs.declared.analysis.Start.{Start}
-use Rattle.analyser.specs.Rounds.{round_invariant, ends, AreInner, InnerFail, entered, IsSettled}
+use Rattle.analyser.specs.Rounds.{round_invariant, ends, AreInner, InnerFail, IsSettled}
 use Rattle.analyser.specs.Following.{IsKnownOfList, IsNote, ListFails, NeedFails, AreNotes, NotesFail, result_from, paths_from, sight_over, begun, end_fault}
 use Rattle.analyser.specs.Analysis.{low_of, high_of, IsCertificate, IsFailure}
 use Rattle.analyser.proofs.Listing.{rising-once}
@@ -93,8 +93,8 @@ known-once w true x s (Some l) None h k = absurd k
 known-once w true x s (Some l) (Some m) h k =
     let invariant : l.invariant ≡ m.invariant = settled-once w x (left_by w x.command s) l.invariant m.invariant h.0 k.0 in
     let inner : l.inner ≡ m.inner =
-    inner-once w x.list (entered w x l.invariant) l.inner m.inner h.1
-    (subst (λ (u : State). AreInner w x.list (entered w x u) m.inner) (sym invariant) k.1) in
+    inner-once w x.list (entry_of w x l.invariant) l.inner m.inner h.1
+    (subst (λ (u : State). AreInner w x.list (entry_of w x u) m.inner) (sym invariant) k.1) in
     ap (λ (n : Looped). Some n) (looped-by l m invariant inner)
 
 note-once : (w : Sight) (x : Step) (s : State) (n m : Note) → IsNote w x s n → IsNote w x s m → n ≡ m
@@ -105,8 +105,8 @@ list-holds_or_fails : (w : Sight) (inner : ℕ) (why : Fault) (x : Step) (s : St
     IsKnownOfList w true x s (Some l) → ListFails w inner why x s m → ⊥
 list-holds_or_fails w inner why x s l m h k =
     let invariant : l.invariant ≡ m.invariant = settled-once w x (left_by w x.command s) l.invariant m.invariant h.0 k.settled in
-    inner-holds_or_fails w why x.list (entered w x l.invariant) l.inner m.inner h.1
-    (subst (λ (u : State). InnerFail w why x.list (entered w x u) m.inner) (sym invariant) k.states)
+    inner-holds_or_fails w why x.list (entry_of w x l.invariant) l.inner m.inner h.1
+    (subst (λ (u : State). InnerFail w why x.list (entry_of w x u) m.inner) (sym invariant) k.states)
 
 holds_or_fails-if : (w : Sight) (global : Bool) (inner : Option ℕ) (why : Fault) (x : Step) (s : State) (l m : Option Looped) →
     global ≡ is_global x.command.verb → are_met x.command s ≡ true → IsKnownOfList w global x s l →
@@ -144,8 +144,8 @@ need-once w (Some inner) (Some place) why other x s None m h k = absurd h
 need-once w (Some inner) (Some place) why other x s (Some l) None h k = absurd k
 need-once w (Some inner) (Some place) why other x s (Some l) (Some m) h k =
     let invariant : l.invariant ≡ m.invariant = settled-once w x (left_by w x.command s) l.invariant m.invariant h.settled k.settled in
-    let same = inner-fails-once w why other x.list (entered w x l.invariant) l.inner m.inner h.states
-    (subst (λ (u : State). InnerFail w other x.list (entered w x u) m.inner) (sym invariant) k.states) in
+    let same = inner-fails-once w why other x.list (entry_of w x l.invariant) l.inner m.inner h.states
+    (subst (λ (u : State). InnerFail w other x.list (entry_of w x u) m.inner) (sym invariant) k.states) in
     let states : l.inner ≡ m.inner = same.1 in
     let number : inner ≡ place = h.number ∙ ap (λ (ts : List State). length ts) states ∙ sym k.number in
     record { inner = ap (λ (n : ℕ). Some n) number; why = same.0; known = ap (λ (n : Looped). Some n) (looped-by l m invariant states) }

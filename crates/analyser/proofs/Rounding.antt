@@ -1,7 +1,7 @@
 -- The rounds of a list, one further.
-use Rattle.std.proofs.Common.{◌≡◌, ◌<◌, ◌+◌, ℕ, suc, min, Bool, true, false, not, List, [], ◌∷◌, ◌++◌, length, get_or, map, drop, Option, None, Some, is_none, option_map, Result, Ok, Err, IfOk, inl, inr, refl, sym, ap, subst, ◌∙◌, arith}
+use Rattle.std.proofs.Common.{◌≡◌, ◌<◌, ◌+◌, ℕ, suc, min, Bool, true, false, not, List, [], ◌∷◌, ◌++◌, cond, ◌||◌, length, get_or, map, drop, Option, None, Some, is_none, is_some, option_map, Result, Ok, Err, IfOk, inl, inr, refl, sym, ap, subst, ◌∙◌, arith}
 use Rattle.std.specs.Prelude.{nat_lt, if◌then◌else◌, IfSome}
-use Rattle.std.proofs.lemmas.Bool.{cases_lt, le-ltb, or_right}
+use Rattle.std.proofs.lemmas.Bool.{cases_lt, le-ltb, or_left, or_right}
 use Rattle.ed_base.specs.declared.fault.Fault.{Fault}
 use Rattle.ed_syntax.specs.declared.command.Command as memory
 use Rattle.ed_syntax.specs.Commands.{Command, Step}
@@ -17,15 +17,16 @@ use Rattle.cert_check.specs.declared.sight.Sight.{Sight}
 use Rattle.cert_check.specs.checker.Covering.{covers}
 use Rattle.cert_check.specs.declared.certificate.Looped as looped
 use Rattle.cert_check.specs.Certificates.{Looped, Note, looped_value}
-use Rattle.cert_check.specs.checker.Valid.{told, are_met, left_by}
+use Rattle.cert_check.specs.checker.Valid.{told, are_met, left_by, once_by, runs_once, entry_of, left_by_inner, after_turns}
 use Rattle.cert_check.proofs.verdicts.Checks.{NeedsAreTheSame}
 use Rattle.cert_check.proofs.verdicts.Counting.{at-place}
 use Rattle.analyser.specs.declared.rounds.Round.{Round}
+use Rattle.analyser.specs.declared.rounds.Settled.{Settled}
 use Rattle.analyser.specs.declared.walk.End.{End}
 use Rattle.analyser.specs.declared.walk.End.TheVariants.{Leaves}
-use Rattle.analyser.specs.Rounds.{all_met, left_by_list, AreInner, InnerFail, entered, turned, next_invariant, round_invariant, ends, IsSettled}
+use Rattle.analyser.specs.Rounds.{all_met, left_by_list, AreInner, InnerFail, turned, next_invariant, round_invariant, ends, IsSettled}
 use Rattle.analyser.specs.Following.{IsKnownOfList, IsNote, ListFails}
-use Rattle.analyser.specs.Walking.{AreKnown, IsRound, invariant_after, HasZones, IsLastRound, IsTaken}
+use Rattle.analyser.specs.Walking.{AreKnown, IsRound, invariant_after, HasZones, after_round, IsLastRound, IsTaken}
 use Rattle.analyser.proofs.Going.{counted-none}
 use Rattle.analyser.proofs.Results.{either}
 use Rattle.analyser.proofs.Sets.{append-all, are-front, are-back, members-append}
@@ -122,18 +123,30 @@ known-first w x first =
       ),
     )
 
-pub known-turned : (w : Sight) (x : Step) (first invariant : State) → Known w x first invariant → Known w x first (turned w x invariant)
-known-turned w x first invariant q =
+-- where the list isn't run once, any line may be the one that is taken
+entry-if : (w : Sight) (body : State) (once : Option State) → is_some once ≡ false →
+    told w (elim once as (λ _. State) [ None ↦ body | Some entry ↦ entry ]) ≡ told w body
+entry-if w body None e = refl
+entry-if w body (Some entry) e = absurd cc
+
+entry-many : (w : Sight) (x : Step) (invariant : State) → runs_once w x invariant ≡ false → entry_of w x invariant ≡ told w (body_entry x.command.verb invariant)
+entry-many w x invariant e = entry-if w (body_entry x.command.verb invariant) (once_by w.version x.command invariant) e
+
+pub known-turned : (w : Sight) (x : Step) (first invariant : State) → runs_once w x invariant ≡ false → Known w x first invariant →
+    Known w x first (turned w x invariant)
+known-turned w x first invariant many q =
     let verb = x.command.verb in
+    let entry : State = told w (body_entry verb invariant) in
     let texts = members-append (matched first) (w.watch ++ taken_matches verb []) in
     let both = members-append w.watch (taken_matches verb []) in
     let gains = members-through w.watch (w.watch ++ taken_matches verb []) (texts_of w x first) both.0 texts.1 in
-    let takes = members-through (taken_matches verb []) (w.watch ++ taken_matches verb []) (texts_of w x first) both.1 texts.1 in (
-      within-list (patterns_of x first) (names_of x first) w x.list (entered w x invariant)
+    let takes = members-through (taken_matches verb []) (w.watch ++ taken_matches verb []) (texts_of w x first) both.1 texts.1 in
+    subst (λ (u : State). Known w x first (left_by_list w x.list u)) (sym (entry-many w x invariant many)) (
+      within-list (patterns_of x first) (names_of x first) w x.list entry
           (are-back (list_patterns x.list) first.patterns (list_patterns x.list) (choices-same (list_patterns x.list)))
           (are-back (list_names x.list) first.names (list_names x.list) (choices-same (list_names x.list)))
           (within-told (patterns_of x first) (names_of x first) w (body_entry verb invariant) q.0),
-      among-list (texts_of w x first) w x.list (entered w x invariant) gains
+      among-list (texts_of w x first) w x.list entry gains
           (among-told (texts_of w x first) w (body_entry verb invariant) (among-entry (texts_of w x first) verb invariant takes q.1)),
     )
 
@@ -166,46 +179,58 @@ inner-length w (c ∷ cs) s (t ∷ inner) h = let q = inner-length w cs (left_by
 
 -- the round isn't the last: the invariant of the next one, and that this one doesn't end
 pub record Goes (w : Sight) (x : Step) (before : ℕ) (invariant next : State) : Type 0 where
+  pub many : runs_once w x invariant ≡ false
   pub uncovered : covers invariant (turned w x invariant) ≡ false
   pub is : next ≡ next_invariant before invariant (turned w x invariant)
   pub goes : ends w x invariant ≡ false
 
-goes-if : (w : Sight) (x : Step) (before : ℕ) (invariant next t : State) (inner : List State) →
-    AreInner w x.list (entered w x invariant) inner → t ≡ turned w x invariant → (covered : Bool) →
+neither : (a b : Bool) → a ≡ false → b ≡ false → (a || b) ≡ false
+neither true b e f = absurd cc
+neither false b e f = f
+
+goes-if : (w : Sight) (x : Step) (before : ℕ) (invariant next t : State) (inner : List State) → runs_once w x invariant ≡ false →
+    AreInner w x.list (entry_of w x invariant) inner → t ≡ turned w x invariant → (covered : Bool) →
     covers invariant t ≡ covered → (if covered then None else Some (next_invariant before invariant t)) ≡ Some next →
     Goes w x before invariant next
-goes-if w x before invariant next t inner h e true c n = absurd cc
-goes-if w x before invariant next t inner h e false c n =
+goes-if w x before invariant next t inner many h e true c n = absurd cc
+goes-if w x before invariant next t inner many h e false c n =
     let uncovered : covers invariant (turned w x invariant) ≡ false = subst (λ (u : State). covers invariant u ≡ false) e c in
-    let met : all_met w x.list (entered w x invariant) ≡ true = inner-met w x.list (entered w x invariant) inner h in
+    let met : all_met w x.list (entry_of w x invariant) ≡ true = inner-met w x.list (entry_of w x invariant) inner h in
     let same : next_invariant before invariant t ≡ next = cc in
+    let unsettled : (not (all_met w x.list (entry_of w x invariant)) || covers invariant (turned w x invariant)) ≡ false = rw met uncovered in
     record {
+      many = many;
       uncovered = uncovered;
       is = sym same ∙ ap (λ (u : State). next_invariant before invariant u) e;
-      goes = rw met uncovered;
+      goes = neither (runs_once w x invariant) _ many unsettled;
     }
 
-pub goes-on : (w : Sight) (x : Step) (before : ℕ) (invariant next : State) (inner : List State) (failed : Option Fault) (t : State) →
-    IsRound w x.list (entered w x invariant) inner failed t → invariant_after before invariant failed t ≡ Some next →
-    Goes w x before invariant next
-goes-on w x before invariant next inner (Some why) t h e = absurd cc
-goes-on w x before invariant next inner None t h e = goes-if w x before invariant next t inner h.0 h.1 (covers invariant t) refl e
+pub goes-on : (w : Sight) (x : Step) (before : ℕ) (once : Bool) (invariant next : State) (inner : List State) (failed : Option Fault) (t : State) →
+    once ≡ runs_once w x invariant → IsRound w x.list (entry_of w x invariant) inner failed t →
+    invariant_after before once invariant failed t ≡ Some next → Goes w x before invariant next
+goes-on w x before true invariant next inner failed t o h e = absurd cc
+goes-on w x before false invariant next inner (Some why) t o h e = absurd cc
+goes-on w x before false invariant next inner None t o h e =
+    goes-if w x before invariant next t inner (sym o) h.0 h.1 (covers invariant t) refl e
 
 ends-if : (w : Sight) (x : Step) (before : ℕ) (invariant t : State) → t ≡ turned w x invariant → (covered : Bool) →
     covers invariant t ≡ covered → (if covered then None else Some (next_invariant before invariant t)) ≡ None →
-    ends w x invariant ≡ true
+    (not (all_met w x.list (entry_of w x invariant)) || covers invariant (turned w x invariant)) ≡ true
 ends-if w x before invariant t e true c n =
-    or_right (not (all_met w x.list (entered w x invariant))) (covers invariant (turned w x invariant))
+    or_right (not (all_met w x.list (entry_of w x invariant))) (covers invariant (turned w x invariant))
     (subst (λ (u : State). covers invariant u ≡ true) e c)
 ends-if w x before invariant t e false c n = absurd cc
 
-pub ends-here : (w : Sight) (x : Step) (before : ℕ) (invariant : State) (inner : List State) (failed : Option Fault) (t : State) →
-    IsRound w x.list (entered w x invariant) inner failed t → invariant_after before invariant failed t ≡ None →
-    ends w x invariant ≡ true
-ends-here w x before invariant inner (Some why) t h e =
-    let unmet : all_met w x.list (entered w x invariant) ≡ false = inner-unmet w why x.list (entered w x invariant) inner h in
-    rw unmet refl
-ends-here w x before invariant inner None t h e = ends-if w x before invariant t h.1 (covers invariant t) refl e
+pub ends-here : (w : Sight) (x : Step) (before : ℕ) (once : Bool) (invariant : State) (inner : List State) (failed : Option Fault) (t : State) →
+    once ≡ runs_once w x invariant → IsRound w x.list (entry_of w x invariant) inner failed t →
+    invariant_after before once invariant failed t ≡ None → ends w x invariant ≡ true
+ends-here w x before true invariant inner failed t o h e = or_left (runs_once w x invariant) _ (sym o)
+ends-here w x before false invariant inner (Some why) t o h e =
+    let unmet : all_met w x.list (entry_of w x invariant) ≡ false = inner-unmet w why x.list (entry_of w x invariant) inner h in
+    let fails : (not (all_met w x.list (entry_of w x invariant)) || covers invariant (turned w x invariant)) ≡ true = rw unmet refl in
+    or_right (runs_once w x invariant) _ fails
+ends-here w x before false invariant inner None t o h e =
+    or_right (runs_once w x invariant) _ (ends-if w x before invariant t h.1 (covers invariant t) refl e)
 
 -- ALL ROUNDS SO FAR
 
@@ -249,7 +274,7 @@ rounds-on w x first invariant next counted more r g e =
             (subst (λ (u : State). ends w x u ≡ false) r.is g.goes)
       ];
       known = subst (λ (u : State). Known w x first u) (sym g.is)
-          (known-next w x first counted invariant (turned w x invariant) r.known (known-turned w x first invariant r.known));
+          (known-next w x first counted invariant (turned w x invariant) r.known (known-turned w x first invariant g.many r.known));
     }
 
 pub rounds-end : (w : Sight) (x : Step) (first invariant : State) (counted : ℕ) → Rounds w x first counted invariant →
@@ -264,7 +289,7 @@ pub rounds-fall : Laws → (w : Sight) (x : Step) (first invariant next : State)
     HasZones (turned w x invariant) → Rounds w x first counted invariant → Goes w x counted invariant next →
     room_of w x first next < room_of w x first invariant
 rounds-fall l w x first invariant next counted h k r g =
-    let within = known-turned w x first invariant r.known in
+    let within = known-turned w x first invariant g.many r.known in
     let falls = falls-next (patterns_of x first) (names_of x first) (texts_of w x first) l counted invariant (turned w x invariant) h k
     within.0.0 within.0.1 r.known.1.1 in
     subst (λ (u : State). room_of w x first u < room_of w x first invariant) (sym g.is) (falls.fewer g.uncovered)
@@ -345,60 +370,73 @@ passing-over w list entry i inner s e p =
 -- THE ROUNDS, by what the calls of one answer
 
 round-of : (w : Sight) (x : Step) (all : List Command) (invariant entry : State) (inner : List State) (failed : Option Fault)
-    (t : State) → all ≡ x.list → entry ≡ entered w x invariant → IsRound w all entry inner failed t →
-    IsRound w x.list (entered w x invariant) inner failed t
+    (t : State) → all ≡ x.list → entry ≡ entry_of w x invariant → IsRound w all entry inner failed t →
+    IsRound w x.list (entry_of w x invariant) inner failed t
 round-of w x all invariant entry inner failed t same begins round =
-    subst (λ (cs : List Command). IsRound w cs (entered w x invariant) inner failed t) same
+    subst (λ (cs : List Command). IsRound w cs (entry_of w x invariant) inner failed t) same
     (subst (λ (u : State). IsRound w all u inner failed t) begins round)
 
-goes-by : (w : Sight) (x : Step) (all : List Command) (invariant next entry : State) (counted : ℕ) (inner : List State)
-    (failed : Option Fault) (t : State) (o : Option State) → all ≡ x.list → entry ≡ entered w x invariant →
-    IsRound w all entry inner failed t → o ≡ invariant_after counted invariant failed t → o ≡ Some next →
+goes-by : (w : Sight) (x : Step) (all : List Command) (invariant next entry : State) (counted : ℕ) (once : Bool) (inner : List State)
+    (failed : Option Fault) (t : State) (o : Option State) → all ≡ x.list → entry ≡ entry_of w x invariant → once ≡ runs_once w x invariant →
+    IsRound w all entry inner failed t → o ≡ invariant_after counted once invariant failed t → o ≡ Some next →
     Goes w x counted invariant next
-goes-by w x all invariant next entry counted inner failed t o same begins round after some =
-    goes-on w x counted invariant next inner failed t (round-of w x all invariant entry inner failed t same begins round)
+goes-by w x all invariant next entry counted once inner failed t o same begins single round after some =
+    goes-on w x counted once invariant next inner failed t single (round-of w x all invariant entry inner failed t same begins round)
     (sym after ∙ some)
 
-pub rounds-next : (w : Sight) (x : Step) (all : List Command) (first invariant next entry : State) (counted more : ℕ) (inner : List State)
-    (failed : Option Fault) (t : State) (o : Option State) → all ≡ x.list → entry ≡ entered w x invariant →
-    IsRound w all entry inner failed t → o ≡ invariant_after counted invariant failed t → o ≡ Some next →
+pub rounds-next : (w : Sight) (x : Step) (all : List Command) (first invariant next entry : State) (counted more : ℕ) (once : Bool) (inner : List State)
+    (failed : Option Fault) (t : State) (o : Option State) → all ≡ x.list → entry ≡ entry_of w x invariant → once ≡ runs_once w x invariant →
+    IsRound w all entry inner failed t → o ≡ invariant_after counted once invariant failed t → o ≡ Some next →
     more ≡ min (counted + 1) 2 → Rounds w x first counted invariant → Rounds w x first more next
-rounds-next w x all first invariant next entry counted more inner failed t o same begins round after some count r =
+rounds-next w x all first invariant next entry counted more once inner failed t o same begins single round after some count r =
     rounds-on w x first invariant next counted more r
-    (goes-by w x all invariant next entry counted inner failed t o same begins round after some) count
+    (goes-by w x all invariant next entry counted once inner failed t o same begins single round after some) count
 
-zones-turned : (w : Sight) (x : Step) (invariant next : State) (counted : ℕ) (inner : List State) (failed : Option Fault) (t : State) →
-    IsRound w x.list (entered w x invariant) inner failed t → invariant_after counted invariant failed t ≡ Some next → HasZones t →
+zones-turned : (w : Sight) (x : Step) (invariant next : State) (counted : ℕ) (once : Bool) (inner : List State) (failed : Option Fault) (t : State) →
+    IsRound w x.list (entry_of w x invariant) inner failed t → invariant_after counted once invariant failed t ≡ Some next → HasZones t →
     HasZones (turned w x invariant)
-zones-turned w x invariant next counted inner (Some why) t round after h = absurd cc
-zones-turned w x invariant next counted inner None t round after h = subst (λ (u : State). HasZones u) round.1 h
+zones-turned w x invariant next counted true inner failed t round after h = absurd cc
+zones-turned w x invariant next counted false inner (Some why) t round after h = absurd cc
+zones-turned w x invariant next counted false inner None t round after h = subst (λ (u : State). HasZones u) round.1 h
 
-pub rounds-smaller : Laws → (w : Sight) (x : Step) (all : List Command) (first invariant next entry : State) (counted : ℕ)
-    (inner : List State) (failed : Option Fault) (t : State) (o : Option State) → all ≡ x.list → entry ≡ entered w x invariant →
-    IsRound w all entry inner failed t → o ≡ invariant_after counted invariant failed t → o ≡ Some next → HasZones invariant →
+pub rounds-smaller : Laws → (w : Sight) (x : Step) (all : List Command) (first invariant next entry : State) (counted : ℕ) (once : Bool)
+    (inner : List State) (failed : Option Fault) (t : State) (o : Option State) → all ≡ x.list → entry ≡ entry_of w x invariant →
+    once ≡ runs_once w x invariant → IsRound w all entry inner failed t → o ≡ invariant_after counted once invariant failed t → o ≡ Some next → HasZones invariant →
     HasZones t → Rounds w x first counted invariant → room_of w x first next < room_of w x first invariant
-rounds-smaller l w x all first invariant next entry counted inner failed t o same begins round after some h k r =
+rounds-smaller l w x all first invariant next entry counted once inner failed t o same begins single round after some h k r =
     rounds-fall l w x first invariant next counted h
-    (zones-turned w x invariant next counted inner failed t (round-of w x all invariant entry inner failed t same begins round)
+    (zones-turned w x invariant next counted once inner failed t (round-of w x all invariant entry inner failed t same begins round)
     (sym after ∙ some) k) r
-    (goes-by w x all invariant next entry counted inner failed t o same begins round after some)
+    (goes-by w x all invariant next entry counted once inner failed t o same begins single round after some)
 
 known-of_round : (w : Sight) (list : List Command) (s : State) (inner : List State) (failed : Option Fault) (t : State) →
     IsRound w list s inner failed t → AreKnown w list s inner failed
 known-of_round w list s inner None t h = h.0
 known-of_round w list s inner (Some why) t h = h
 
-pub rounds-last : (w : Sight) (x : Step) (all : List Command) (first invariant entry : State) (counted : ℕ) (r : Round) (t : State)
-    (o : Option State) → all ≡ x.list → entry ≡ entered w x invariant → IsRound w all entry r.inner.items r.failed t →
-    o ≡ invariant_after counted invariant r.failed t → o ≡ None → Rounds w x first counted invariant →
-    IsLastRound w x first invariant r
-rounds-last w x all first invariant entry counted r t o same begins round after none so_far =
+-- what is known after the last line
+left-of_round : (w : Sight) (x : Step) (invariant left : State) (once : Bool) (inner : List State) (failed : Option Fault) (t : State) →
+    once ≡ runs_once w x invariant → IsRound w x.list (entry_of w x invariant) inner failed t → left ≡ cond once t invariant → failed ≡ None →
+    left ≡ after_round w x invariant
+left-of_round w x invariant left once inner None t single round is none =
+    is ∙ ap (λ (u : State). cond once u invariant) round.1 ∙ ap (λ (b : Bool). cond b (turned w x invariant) invariant) single
+left-of_round w x invariant left once inner (Some why) t single round is none = absurd cc
+
+pub rounds-last : (w : Sight) (x : Step) (all : List Command) (first invariant left entry : State) (counted : ℕ) (once : Bool) (r : Round) (s : Settled) (t : State)
+    (o : Option State) → all ≡ x.list → entry ≡ entry_of w x invariant → once ≡ runs_once w x invariant → IsRound w all entry r.inner.items r.failed t →
+    o ≡ invariant_after counted once invariant r.failed t → o ≡ None → Rounds w x first counted invariant → s.invariant ≡ invariant → s.round ≡ r →
+    left ≡ cond once t invariant → IsLastRound w x first left s
+rounds-last w x all first invariant left entry counted once r s t o same begins single round after none so_far is_invariant is_round is_left =
     let here = round-of w x all invariant entry r.inner.items r.failed t same begins round in
-    record {
-      settled = rounds-end w x first invariant counted so_far
-          (ends-here w x counted invariant r.inner.items r.failed t here (sym after ∙ none));
-      known = known-of_round w x.list (entered w x invariant) r.inner.items r.failed t here;
-    }
+    let Last : State → Round → Type 0 = λ (u : State) (q : Round).
+    IsSettled w x first u × AreKnown w x.list (entry_of w x u) q.inner.items q.failed × (q.failed ≡ None → left ≡ after_round w x u) in
+    let last : Last s.invariant s.round =
+    subst (λ (u : State). Last u s.round) (sym is_invariant) (subst (λ (q : Round). Last invariant q) (sym is_round) (
+      rounds-end w x first invariant counted so_far (ends-here w x counted once invariant r.inner.items r.failed t single here (sym after ∙ none)),
+      known-of_round w x.list (entry_of w x invariant) r.inner.items r.failed t here,
+      left-of_round w x invariant left once r.inner.items r.failed t single here is_left,
+    )) in
+    record { settled = last.0; known = last.1; left = last.2 }
 
 -- ONE COMMAND WITH ITS LIST
 
@@ -409,23 +447,37 @@ known-of : (w : Sight) (x : Step) (s : State) (l : Option Looped) (global : Bool
     IsKnownOfList w global x s l → IsKnownOfList w (is_global x.command.verb) x s l
 known-of w x s l global e h = subst (λ (b : Bool). IsKnownOfList w b x s l) (sym e) h
 
-pub global-leaves : (w : Sight) (x : Step) (s t u invariant : State) (r : Round) → is_global x.command.verb ≡ true →
-    fault_of (step [] x.command s) ≡ None → IsLastRound w x (left_by w x.command s) invariant r → r.failed ≡ None →
-    u ≡ loop_end x s invariant → t ≡ told w u →
-    IsNote w x s (noted s (Some (record { invariant = invariant; inner = r.inner.items }))) × (t ≡ told w (loop_end x s invariant))
-global-leaves w x s t u invariant r global none last end is tells =
-    let known = subst (λ (f : Option Fault). AreKnown w x.list (entered w x invariant) r.inner.items f) end last.known in (
+-- what a list leaves, by what is known before each of its commands
+inner-left : (w : Sight) (cs : List Command) (s : State) (ts : List State) → AreInner w cs s ts → left_by_inner w cs ts s ≡ left_by_list w cs s
+inner-left w [] s [] h = refl
+inner-left w [] s (t ∷ ts) h = absurd h
+inner-left w (c ∷ cs) s [] h = absurd h
+inner-left w (c ∷ cs) s (t ∷ ts) h =
+    ap (λ (u : State). left_by_inner w cs ts (left_by w c u)) h.0 ∙ inner-left w cs (left_by w c s) ts h.2
+
+pub after-of_round : (w : Sight) (x : Step) (l : Looped) → AreInner w x.list (entry_of w x l.invariant) l.inner → after_turns w x l ≡ after_round w x l.invariant
+after-of_round w x l h =
+    ap (λ (u : State). cond (runs_once w x l.invariant) u l.invariant) (inner-left w x.list (entry_of w x l.invariant) l.inner h)
+
+pub global-leaves : (w : Sight) (x : Step) (s t u left : State) (r : Settled) → is_global x.command.verb ≡ true →
+    fault_of (step [] x.command s) ≡ None → IsLastRound w x (left_by w x.command s) left r → r.round.failed ≡ None →
+    u ≡ loop_end x s left → t ≡ told w u →
+    IsNote w x s (noted s (Some (record { invariant = r.invariant; inner = r.round.inner.items }))) ×
+    (t ≡ told w (loop_end x s (after_turns w x (record { invariant = r.invariant; inner = r.round.inner.items }))))
+global-leaves w x s t u left r global none last end is tells =
+    let known = subst (λ (f : Option Fault). AreKnown w x.list (entry_of w x r.invariant) r.round.inner.items f) end last.known in
+    let l : Looped = record { invariant = r.invariant; inner = r.round.inner.items } in (
       record { state = refl; met = met-none x.command s none; list = known-of w x s _ true global (last.settled, known) },
-      tells ∙ ap (told w) is,
+      tells ∙ ap (told w) (is ∙ ap (loop_end x s) (last.left end ∙ sym (after-of_round w x l known))),
     )
 
-pub global-stops : (w : Sight) (x : Step) (s invariant : State) (number : ℕ) (why : Fault) (r : Round) →
+pub global-stops : (w : Sight) (x : Step) (s left : State) (number : ℕ) (why : Fault) (r : Settled) →
     is_global x.command.verb ≡ true → fault_of (step [] x.command s) ≡ None →
-    IsLastRound w x (left_by w x.command s) invariant r →
-    r.failed ≡ Some why → number ≡ length r.inner.items →
-    ListFails w number why x s (record { invariant = invariant; inner = r.inner.items })
-global-stops w x s invariant number why r global none last end count =
-    let known = subst (λ (f : Option Fault). AreKnown w x.list (entered w x invariant) r.inner.items f) end last.known in
+    IsLastRound w x (left_by w x.command s) left r →
+    r.round.failed ≡ Some why → number ≡ length r.round.inner.items →
+    ListFails w number why x s (record { invariant = r.invariant; inner = r.round.inner.items })
+global-stops w x s left number why r global none last end count =
+    let known = subst (λ (f : Option Fault). AreKnown w x.list (entry_of w x r.invariant) r.round.inner.items f) end last.known in
     record {
       met = met-none x.command s none;
       global = global;
@@ -434,9 +486,9 @@ global-stops w x s invariant number why r global none last end count =
       number = count;
     }
 
-pub last-begun : (w : Sight) (x : Step) (s first invariant : State) (r : Round) → first ≡ left_by w x.command s →
-    IsLastRound w x first invariant r → IsLastRound w x (left_by w x.command s) invariant r
-last-begun w x s first invariant r begins last = subst (λ (u : State). IsLastRound w x u invariant r) begins last
+pub last-begun : (w : Sight) (x : Step) (s first left : State) (r : Settled) → first ≡ left_by w x.command s →
+    IsLastRound w x first left r → IsLastRound w x (left_by w x.command s) left r
+last-begun w x s first left r begins last = subst (λ (u : State). IsLastRound w x u left r) begins last
 
 -- what a command leaves, where its needs hold
 pub left-told : (w : Sight) (x : Step) (s t u : State) → step w.watch x.command s ≡ Ok u → t ≡ told w u →
@@ -455,7 +507,7 @@ shape-if : (w : Sight) (global : Bool) (x : Step) (s : State) (l : Option looped
     IsKnownOfList w global x s (option_map looped_value l) → IfSome l (λ m. length m.inner.items ≡ length x.list)
 shape-if w global x s None h = tt
 shape-if w false x s (Some l) h = absurd h
-shape-if w true x s (Some l) h = inner-length w x.list (entered w x l.invariant) l.inner.items h.1
+shape-if w true x s (Some l) h = inner-length w x.list (entry_of w x l.invariant) l.inner.items h.1
 
 pub taken-shape : (w : Sight) (x : Step) (s t : State) (l : Option looped.Looped) (end : End) → IsTaken w x s l end t →
     end ≡ Leaves → IfSome l (λ m. length m.inner.items ≡ length x.list)

@@ -1,10 +1,10 @@
 -- What is known is formed, as far as it is told: it can be written down.
 use Rattle.std.proofs.Common.{◌≡◌, ℕ, zero, suc, Bool, true, false, List, [], ◌∷◌, Option, None, Some, Result, Ok, Err, refl, ◌∙◌, sym, ap, subst}
-use Rattle.std.specs.Prelude.{nat_lt, is_some, ◌||◌, IfOk}
+use Rattle.std.specs.Prelude.{nat_lt, is_some, ◌||◌, option_map, IfOk, IfSome}
 use Rattle.std.specs.List.{All}
 use Rattle.std.proofs.lemmas.List.Elements.{All-nil, All-cons, All-head, All-tail}
 use Rattle.ed_base.specs.declared.fault.Fault.{Fault}
-use Rattle.ed_syntax.specs.Commands.{Verb, Command, Step, Script}
+use Rattle.ed_syntax.specs.Commands.{Addresses, Without, Verb, Command, Step, Script}
 use Rattle.ed_syntax.specs.meaning.Verbs.{is_global, ends_run}
 use Rattle.ed_rules.specs.declared.known_matches.Matches.{Matches}
 use Rattle.ed_rules.specs.declared.state.Old.{Old}
@@ -20,7 +20,8 @@ use Rattle.ed_rules.specs.facts.Facts.{Facts, no_facts}
 use Rattle.zones.specs.Zone.{Bounds}
 use Rattle.zones.specs.Steps.{join_of, widening_of}
 use Rattle.ed_rules.specs.Rules.{step}
-use Rattle.ed_rules.specs.Globals.{body_entry, loop_end}
+use Rattle.ed_rules.specs.Globals as rules
+use Rattle.ed_rules.specs.Globals.{body_entry, only_line, line_entry, once_entry, loop_end}
 use Rattle.ed_rules.specs.Formed.{ChoiceIsBytes, OldIsFormed, OldIsLow, IsOfLines, IsFormed, IsEnded, TextsAreFormed, MatchesAreFormed, VerbIsBytes, TextsAreBytes}
 use Rattle.ed_rules.proofs.through.Needs.{anyway}
 use Rattle.landmarks.specs.declared.landmark.Landmark.{Landmark}
@@ -30,12 +31,13 @@ use Rattle.cert_check.specs.declared.sight.Sight.{Sight}
 use Rattle.cert_check.specs.Certificates.{Looped, Note}
 use Rattle.cert_check.specs.checker.Beginning.{landmarks_of, letters_of_chains, began}
 use Rattle.cert_check.specs.checker.InForm.{old_in_form, state_in_form}
-use Rattle.cert_check.specs.checker.Valid.{sight_of, told_by, told, counted, left_by, left_after}
+use Rattle.cert_check.specs.checker.Valid.{sight_of, told_by, told, counted, left_by, left_after, once_by, runs_once, after_turns, entry_of}
 use Rattle.analyser.specs.declared.analysis.Start.{Start}
-use Rattle.analyser.specs.Rounds.{left_by_list, AreInner, entered, turned, round_invariant}
+use Rattle.analyser.specs.Rounds.{left_by_list, AreInner, turned, round_invariant}
 use Rattle.analyser.specs.Following.{IsKnownOfList, AreNotes, result_from, version_of, chains_of_start, stated_of, sight_over, knowing, begun}
 use Rattle.analyser.specs.Walking.{StepIsBytes}
 use Rattle.analyser.proofs.Results.{either}
+use Rattle.analyser.proofs.Rounding.{after-of_round}
 use Rattle.analyser.proofs.Followed.{follows-step}
 use Rattle.analyser.proofs.InForm.{AreInForm, OldIsInForm, told-in_form, both-in_form}
 use Rattle.analyser.proofs.StartForming.{ended-left}
@@ -47,6 +49,7 @@ pub record Laws : Type 0 where
   pub join : (one other : State) → IsFormed one → IsFormed other → IsFormed (join one other)
   pub widen : (old new : State) → IsFormed old → IsFormed new → IsFormed (widen old new)
   pub entry : (verb : Verb) (invariant : State) → IsFormed invariant → IsEnded (body_entry verb invariant)
+  pub once : (c : Command) (invariant : State) → IsFormed invariant → IfSome (once_entry c invariant) IsEnded
   pub end : (x : Step) (before invariant : State) → IsFormed before → IsFormed invariant → IsEnded (loop_end x before invariant)
 
 -- the same of matches
@@ -56,6 +59,7 @@ pub record MatchLaws : Type 0 where
   pub join : (one other : State) → MatchesAreFormed one → MatchesAreFormed other → MatchesAreFormed (join one other)
   pub widen : (old new : State) → MatchesAreFormed old → MatchesAreFormed new → MatchesAreFormed (widen old new)
   pub entry : (verb : Verb) (invariant : State) → VerbIsBytes verb → MatchesAreFormed invariant → MatchesAreFormed (body_entry verb invariant)
+  pub once : (c : Command) (invariant : State) → VerbIsBytes c.verb → MatchesAreFormed invariant → IfSome (once_entry c invariant) MatchesAreFormed
   pub end : (x : Step) (before invariant : State) → MatchesAreFormed before → MatchesAreFormed invariant → MatchesAreFormed (loop_end x before invariant)
   pub watched : (follows : Bool) (script : Script) (has : List (List ℕ)) → All (λ (x : Step). TextsAreBytes x.command × All TextsAreBytes x.list) script.steps → TextsAreFormed has → TextsAreFormed (watched follows script has)
 
@@ -207,6 +211,19 @@ follow-entry version.One verb invariant h = tt
 follow-entry version.Two verb invariant h = tt
 follow-entry version.Three verb invariant h = h
 
+follow-line : (verb : Verb) (invariant : State) (v : Option ℕ) → invariant.follows ≡ true → IfSome (option_map (λ v. line_entry v verb invariant) v) (λ (t : State). t.follows ≡ true)
+follow-line verb invariant None h = tt
+follow-line verb invariant (Some v) h = h
+
+follow-given : (given : Addresses) (verb : Verb) (invariant : State) → invariant.follows ≡ true → IfSome (rules.once_by given verb invariant) (λ (t : State). t.follows ≡ true)
+follow-given Without verb invariant h = follow-line verb invariant (only_line verb invariant) h
+follow-given _ verb invariant h = tt
+
+follow-once : (v : Version) (c : Command) (invariant : State) → MayFollow v invariant → IfSome (once_by v c invariant) (MayFollow v)
+follow-once version.One c invariant h = tt
+follow-once version.Two c invariant h = tt
+follow-once version.Three c invariant h = follow-given c.addresses c.verb invariant h
+
 follow-end : (v : Version) (x : Step) (before invariant : State) → MayFollow v invariant → MayFollow v (loop_end x before invariant)
 follow-end version.One x before invariant h = tt
 follow-end version.Two x before invariant h = tt
@@ -310,6 +327,16 @@ may-entry k version.One verb invariant b h = tt
 may-entry k version.Two verb invariant b h = k.entry verb invariant b h
 may-entry k version.Three verb invariant b h = k.entry verb invariant b h
 
+may-once : MatchLaws → (v : Version) (c : Command) (invariant : State) → VerbIsBytes c.verb → SaysAsTold v invariant → IfSome (once_by v c invariant) (MayBeTold v)
+may-once k version.One c invariant b h = tt
+may-once k version.Two c invariant b h = tt
+may-once k version.Three c invariant b h = k.once c invariant b h
+
+ended-once : Laws → (v : Version) (c : Command) (invariant : State) → IsFormed invariant → IfSome (once_by v c invariant) IsEnded
+ended-once k version.One c invariant h = tt
+ended-once k version.Two c invariant h = tt
+ended-once k version.Three c invariant h = k.once c invariant h
+
 may-end : MatchLaws → (v : Version) (x : Step) (before invariant : State) → SaysAsTold v before → SaysAsTold v invariant → MayBeTold v (loop_end x before invariant)
 may-end k version.One x before invariant h q = tt
 may-end k version.Two x before invariant h q = k.end x before invariant h q
@@ -375,21 +402,29 @@ module _ (k : Laws) (m : MatchLaws) (w : Sight) (watch : WatchIsFormed w.version
   list-holds [] s b h = h
   list-holds (c ∷ cs) s b h = list-holds cs (left_by w c s) (All-tail TextsAreBytes c cs b) (step-holds c s (All-head TextsAreBytes c cs b) h)
 
-  entry-holds : (x : Step) (invariant : State) → StepIsBytes x → Holds w.version invariant → Holds w.version (entered w x invariant)
+  told-holds : (s : State) → IsEnded s → MayBeTold w.version s → MayFollow w.version s → Holds w.version (told w s)
+  told-holds s ended says follows = record { formed = formed-told w s ended.formed; says = says-told w.version s says; lines = lines-told w s follows }
+
+  entry-by : (body : State) (once : Option State) → Holds w.version (told w body) → IfSome once IsEnded → IfSome once (MayBeTold w.version) →
+      IfSome once (MayFollow w.version) → Holds w.version (told w (elim once as (λ _. State) [ None ↦ body | Some entry ↦ entry ]))
+  entry-by body None h ended says follows = h
+  entry-by body (Some entry) h ended says follows = told-holds entry ended says follows
+
+  entry-holds : (x : Step) (invariant : State) → StepIsBytes x → Holds w.version invariant → Holds w.version (entry_of w x invariant)
   entry-holds x invariant b h =
-      let entry : State = body_entry x.command.verb invariant in
-      record {
-        formed = formed-told w entry (k.entry x.command.verb invariant h.formed).formed;
-        says = says-told w.version entry (may-entry m w.version x.command.verb invariant b.0.1 h.says);
-        lines = lines-told w entry (follow-entry w.version x.command.verb invariant (may-follow w.version invariant h.lines));
-      }
+      let c : Command = x.command in
+      let follows = may-follow w.version invariant h.lines in
+      entry-by (body_entry c.verb invariant) (once_by w.version c invariant)
+      (told-holds (body_entry c.verb invariant) (k.entry c.verb invariant h.formed) (may-entry m w.version c.verb invariant b.0.1 h.says)
+      (follow-entry w.version c.verb invariant follows))
+      (ended-once k w.version c invariant h.formed) (may-once m w.version c invariant b.0.1 h.says) (follow-once w.version c invariant follows)
 
   round-holds : (x : Step) (first : State) (n : ℕ) → StepIsBytes x → Holds w.version first → Holds w.version (round_invariant w x first n)
   round-holds x first zero b h = h
   round-holds x first (suc n) b h =
       let invariant : State = round_invariant w x first n in
       let before : Holds w.version invariant = round-holds x first n b h in
-      let after : Holds w.version (turned w x invariant) = list-holds x.list (entered w x invariant) b.1 (entry-holds x invariant b before) in
+      let after : Holds w.version (turned w x invariant) = list-holds x.list (entry_of w x invariant) b.1 (entry-holds x invariant b before) in
       either (Holds w.version) (nat_lt n 2) _ _
       (record {
         formed = k.join _ _ before.formed after.formed;
@@ -428,8 +463,11 @@ module _ (k : Laws) (m : MatchLaws) (w : Sight) (watch : WatchIsFormed w.version
       let first : Holds w.version (left_by w x.command s) = step-holds x.command s b.0 (holds-at_end w.version s h) in
       let invariant : Holds w.version l.invariant =
       subst (λ (u : State). Holds w.version u) (sym i.0.is) (round-holds x (left_by w x.command s) i.0.before b first) in (
-        (invariant, inner-hold x.list (entered w x l.invariant) l.inner b.1 (entry-holds x l.invariant b invariant) i.1),
-        end-holds x s l.invariant h invariant,
+        (invariant, inner-hold x.list (entry_of w x l.invariant) l.inner b.1 (entry-holds x l.invariant b invariant) i.1),
+        end-holds x s (after_turns w x l) h
+            (subst (λ (u : State). Holds w.version u) (sym (after-of_round w x l i.1))
+            (either (Holds w.version) (runs_once w x l.invariant) (turned w x l.invariant) l.invariant
+            (list-holds x.list (entry_of w x l.invariant) b.1 (entry-holds x l.invariant b invariant)) invariant)),
       )
 
   notes-hold : (xs : List Step) (s : State) (ns : List Note) → All StepIsBytes xs → HoldsAtEnd w.version s → AreNotes w xs s ns →

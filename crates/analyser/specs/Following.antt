@@ -16,9 +16,9 @@ use Rattle.cert_check.specs.declared.certificate.Version.TheVariants as version
 use Rattle.cert_check.specs.declared.sight.Sight.{Sight}
 use Rattle.cert_check.specs.Certificates.{Looped, Note}
 use Rattle.cert_check.specs.checker.Beginning.{landmarks_of, has_letters, letters_of_chains, began}
-use Rattle.cert_check.specs.checker.Valid.{sight_of, told, are_met, left_by, left_after}
+use Rattle.cert_check.specs.checker.Valid.{sight_of, told, are_met, left_by, left_after, entry_of}
 use Rattle.analyser.specs.declared.analysis.Start.{Start}
-use Rattle.analyser.specs.Rounds.{IsSettled, AreInner, InnerFail, entered}
+use Rattle.analyser.specs.Rounds.{IsSettled, AreInner, InnerFail}
 
 -- ONE COMMAND, of which a state comes in
 
@@ -29,7 +29,7 @@ abbrev pub IsKnownOfList : Sight → (global : Bool) → Step → (coming : Stat
 IsKnownOfList w false x s None = Unit {0}
 IsKnownOfList w false x s (Some l) = ⊥
 IsKnownOfList w true x s None = ⊥
-IsKnownOfList w true x s (Some l) = IsSettled w x (left_by w x.command s) l.invariant × AreInner w x.list (entered w x l.invariant) l.inner
+IsKnownOfList w true x s (Some l) = IsSettled w x (left_by w x.command s) l.invariant × AreInner w x.list (entry_of w x l.invariant) l.inner
 
 -- its note, where no need fails
 pub record IsNote (w : Sight) (x : Step) (coming : State) (n : Note) : Type 0 where
@@ -43,7 +43,7 @@ pub record ListFails (w : Sight) (inner : ℕ) (why : Fault) (x : Step) (coming 
   pub met : are_met x.command coming ≡ true
   pub global : is_global x.command.verb ≡ true
   pub settled : IsSettled w x (left_by w x.command coming) l.invariant
-  pub states : InnerFail w why x.list (entered w x l.invariant) l.inner
+  pub states : InnerFail w why x.list (entry_of w x l.invariant) l.inner
   pub number : inner ≡ length l.inner
 
 -- its first need that fails, by this fault: one of its own, or of its list

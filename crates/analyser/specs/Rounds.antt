@@ -5,10 +5,9 @@ use Rattle.ed_syntax.specs.Commands.{Command, Step}
 use Rattle.ed_rules.specs.declared.state.State.{State}
 use Rattle.ed_rules.specs.Order.{join, widen}
 use Rattle.ed_rules.specs.Rules.{step, fault_of}
-use Rattle.ed_rules.specs.Globals.{body_entry}
 use Rattle.cert_check.specs.declared.sight.Sight.{Sight}
 use Rattle.cert_check.specs.checker.Covering.{covers}
-use Rattle.cert_check.specs.checker.Valid.{told, are_met, left_by}
+use Rattle.cert_check.specs.checker.Valid.{are_met, left_by, runs_once, entry_of}
 
 -- A LIST, from the state on that comes in
 
@@ -39,13 +38,9 @@ InnerFail w why (c ∷ cs) s (t ∷ u ∷ ts) = (t ≡ s) × (are_met c s ≡ tr
 
 -- ROUNDS of a global command
 
--- the state in which its list is run for a line, from an invariant
-abbrev pub entered : Sight → Step → (invariant : State) → State
-entered w x invariant = told w (body_entry x.command.verb invariant)
-
 -- what the list leaves, run once from an invariant on
 abbrev pub turned : Sight → Step → (invariant : State) → State
-turned w x invariant = left_by_list w x.list (entered w x invariant)
+turned w x invariant = left_by_list w x.list (entry_of w x invariant)
 
 -- The invariant of the next round, by how many rounds came before this one: the join of this one's invariant with what the list
 -- leaves after the first two rounds, then their widening, so that the rounds end.
@@ -57,9 +52,9 @@ abbrev pub round_invariant : Sight → Step → (first : State) → (before : �
 round_invariant w x first zero = first
 round_invariant w x first (suc n) = let invariant = round_invariant w x first n in next_invariant n invariant (turned w x invariant)
 
--- the round of an invariant is the last one: a need of the list fails, or the invariant covers what the list leaves
+-- the round of an invariant is the last one: the list is run for one line alone, a need of it fails, or the invariant covers what it leaves
 abbrev pub ends : Sight → Step → (invariant : State) → Bool
-ends w x invariant = not (all_met w x.list (entered w x invariant)) || covers invariant (turned w x invariant)
+ends w x invariant = runs_once w x invariant || (not (all_met w x.list (entry_of w x invariant)) || covers invariant (turned w x invariant))
 
 -- the invariant of the last round, the first one that ends
 pub record IsSettled (w : Sight) (x : Step) (first invariant : State) : Type 0 where

@@ -1,5 +1,5 @@
 -- How the analyser goes through the commands: what its own functions answer.
-use Rattle.std.specs.Prelude.{◌≡◌, ◌<◌, ℕ, List, [], ◌∷◌, map, length, Option, Some, None, option_map, if◌then◌else◌}
+use Rattle.std.specs.Prelude.{◌≡◌, ◌<◌, ℕ, List, [], ◌∷◌, map, length, Bool, true, false, Option, Some, None, option_map, if◌then◌else◌}
 use Rattle.std.specs.List.{All}
 use Rattle.ed_base.specs.declared.fault.Fault.{Fault}
 use Rattle.ed_syntax.specs.Commands.{Command, Step}
@@ -16,14 +16,14 @@ use Rattle.cert_check.specs.checker.InForm.{HaveBytes}
 use Rattle.cert_check.specs.declared.certificate.Looped.{Looped}
 use Rattle.cert_check.specs.Certificates as plain
 use Rattle.cert_check.specs.Certificates.{looped_value, note_value}
-use Rattle.cert_check.specs.checker.Valid.{counted, has_quit, left_after}
-use Rattle.analyser.specs.declared.rounds.Round.{Round}
+use Rattle.cert_check.specs.checker.Valid.{counted, has_quit, left_after, runs_once, entry_of}
+use Rattle.analyser.specs.declared.rounds.Settled.{Settled}
 use Rattle.analyser.specs.declared.walk.End.{End}
 use Rattle.analyser.specs.declared.walk.End.TheVariants.{Leaves, Stops}
 use Rattle.analyser.specs.declared.walk.Walk.{Walk}
 use Rattle.analyser.specs.declared.walk.Outcome.{Outcome}
 use Rattle.analyser.specs.declared.walk.Outcome.TheVariants.{Left, Fails}
-use Rattle.analyser.specs.Rounds.{left_by_list, AreInner, InnerFail, entered, next_invariant, IsSettled}
+use Rattle.analyser.specs.Rounds.{left_by_list, AreInner, InnerFail, turned, next_invariant, IsSettled}
 use Rattle.analyser.specs.Following.{IsNote, NeedFails, AreNotes, NotesFail, result_from, paths_from}
 
 -- the paths among choices, put in one after another
@@ -42,10 +42,11 @@ abbrev pub IsRound : Sight → List Command → State → List State → (failed
 IsRound w list s inner None t = AreInner w list s inner × (t ≡ left_by_list w list s)
 IsRound w list s inner (Some why) t = InnerFail w why list s inner
 
--- the invariant of the round after one that comes to this; there is none after the last round
-abbrev pub invariant_after : (before : ℕ) → State → (failed : Option Fault) → (left : State) → Option State
-invariant_after n invariant (Some why) t = None
-invariant_after n invariant None t = if covers invariant t then None else Some (next_invariant n invariant t)
+-- the invariant of the round after one that comes to this, by whether its list is run once; there is none after the last round
+abbrev pub invariant_after : (before : ℕ) → (once : Bool) → State → (failed : Option Fault) → (left : State) → Option State
+invariant_after n true invariant failed t = None
+invariant_after n false invariant (Some why) t = None
+invariant_after n false invariant None t = if covers invariant t then None else Some (next_invariant n invariant t)
 
 -- there are fewer facts of lines and of stretches than a word can count
 abbrev pub AreCountable : Facts → Type 0
@@ -60,14 +61,19 @@ pub record HasZones (s : State) : Type 0 where
   pub zone : IsZone s.zone
   pub old : OldIsZone s.undo.was
 
--- what the last round of a global command comes to
-pub record IsLastRound (w : Sight) (x : Step) (first invariant : State) (r : Round) : Type 0 where
-  pub settled : IsSettled w x first invariant
-  pub known : AreKnown w x.list (entered w x invariant) r.inner.items r.failed
+-- what is known after the last line, by the last round: its invariant, or what the list leaves where it is run once
+abbrev pub after_round : Sight → Step → (invariant : State) → State
+after_round w x invariant = if runs_once w x invariant then turned w x invariant else invariant
+
+-- what the last round of a global command comes to, and what is known after the last line where no need of the list fails
+pub record IsLastRound (w : Sight) (x : Step) (first after : State) (r : Settled) : Type 0 where
+  pub settled : IsSettled w x first r.invariant
+  pub known : AreKnown w x.list (entry_of w x r.invariant) r.round.inner.items r.round.failed
+  pub left : r.round.failed ≡ None → after ≡ after_round w x r.invariant
 
 -- what is told of a list by its last round
-abbrev pub looped_of : (invariant : State) → Round → Looped
-looped_of invariant r = record { invariant = invariant; inner = r.inner }
+abbrev pub looped_of : Settled → Looped
+looped_of r = record { invariant = r.invariant; inner = r.round.inner }
 
 -- what a command comes to, its list included, and its result where no need fails
 abbrev pub IsTaken : Sight → Step → State → Option Looped → End → (left : State) → Type 0

@@ -1,16 +1,15 @@
 //! The rounds of a global command's list, up to the invariant that shows what is known at every turn.
 
-ghost use Rattle.std.specs.Prelude.{◌≡◌, ◌+◌, true, map, min, IfOk};
+ghost use Rattle.std.specs.Prelude.{◌≡◌, ◌+◌, true, if◌then◌else◌, map, min, IfOk, OnOk};
 ghost use Rattle.ed_syntax.specs.PublicTypes.{command_value, step_value};
 ghost use Rattle.ed_syntax.specs.meaning.Verbs.{is_global};
 ghost use Rattle.zones.specs.Limits.{IsZone};
-ghost use Rattle.analyser.specs.Rounds.{entered};
 ghost use Rattle.analyser.specs.Walking.{IsRound, invariant_after, AreCountable, OldIsZone, HasZones, IsLastRound};
 
 use cert_check::{Sight, covering_is_decided};
 use ed_base::Fault;
 use ed_rules::{
-    KeptState, LineFacts, Old, State, body_entry, joined_states_are_covered,
+    KeptState, LineFacts, Old, State, joined_states_are_covered,
     needs_are_the_same_whatever_is_watched, outcome_into,
 };
 use ed_syntax::Command;
@@ -27,14 +26,11 @@ pub(crate) struct Round {
     pub failed: Option<Fault>,
 }
 
-/// The state in which a list is run for a line, as far as it is told.
-fn enter(sight: &Sight, command: &Command, invariant: &State) -> Result<State, AllocError>
-    requires global { is_global (command_value command.now).verb ≡ true }
-    ensures value { IfOk result (λ entry. entry ≡ entered sight.now (step_value command.now) invariant.now) }
-{
-    let mut entry = body_entry(command, invariant)?;
-    sight.tell(&mut entry);
-    Ok(entry)
+/// The invariant of the last round, and what that comes to.
+#[derive(Drop)]
+pub(crate) struct Settled {
+    pub invariant: KeptState,
+    pub round: Round,
 }
 
 /// A round: goes through a list, from the state in which it is run for a line. Where no need fails, `coming` becomes the result of
@@ -71,17 +67,19 @@ fn go_round(
     })
 }
 
-/// The invariant of the next round, by how many rounds came before this one and what this one comes to; none where it is the last.
+/// The invariant of the next round, by how many rounds came before this one and what this one comes to; none where it is the last, as it
+/// is where the list is run for one line alone.
 fn invariant_after(
     before: u8,
+    once: bool,
     invariant: &State,
     failed: Option<Fault>,
     left: &State,
 ) -> Result<Option<State>, AllocError>
-    ensures value { IfOk result (λ next. next ≡ invariant_after before invariant.now failed left.now) }
+    ensures value { IfOk result (λ next. next ≡ invariant_after before once invariant.now failed left.now) }
 {
     covering_is_decided();
-    if failed.is_some() || invariant.covers(left) {
+    if once || failed.is_some() || invariant.covers(left) {
         Ok(None)
     } else if before < 2 {
         Ok(Some(invariant.join(left)?))
@@ -130,28 +128,52 @@ fn zones_are_kept(state: &State)
     old_is_kept(&state.undo.was);
 }
 
+/// What is told of the last round. From its invariant, what is known before each line is taken, `known` becomes what is known after the last
+/// one: what the list leaves where it is run once.
+fn end_rounds(
+    once: bool,
+    round: Round,
+    turned: &State,
+    known: &mut State,
+) -> Result<Settled, AllocError>
+    ensures invariant { IfOk result (λ settled. settled.invariant ≡ known.old) }
+    ensures round { IfOk result (λ settled. settled.round ≡ round) }
+    ensures after { OnOk result (known.new ≡ (if once then turned.now else known.old)) }
+{
+    let invariant = known.try_keep()?;
+    if once {
+        known.try_copy_from(turned)?;
+    }
+    Ok(Settled { invariant, round })
+}
+
 /// Goes through the rounds of a global command's list, from the state before the first line is taken, up to the last one, which is
-/// told. `known` becomes the invariant, what is known before each line is taken.
+/// told with its invariant. `known` becomes what is known after the last line.
 pub(crate) fn settle(
     alloc: Global,
     sight: &Sight,
     command: &Command,
     known: &mut State,
-) -> Result<Round, AllocError>
+) -> Result<Settled, AllocError>
     requires global { is_global (command_value command.now).verb ≡ true }
-    ensures value { IfOk result (λ round. IsLastRound sight.now (step_value command.now) known.old known.new round) }
+    ensures value { IfOk result (λ settled. IsLastRound sight.now (step_value command.now) known.old known.new settled) }
 {
     joined_states_are_covered();
     let list = command.list();
     let mut left = Box::new(alloc, known.try_copy()?)?;
     let mut before = 0;
     'settling: loop {
-        let mut coming = Box::new(alloc, enter(sight, command, known)?)?;
+        let entry = sight.enter(command, known)?;
+        let once = entry.once;
+        let mut coming = Box::new(alloc, entry.state)?;
         let round = go_round(alloc, sight, list, &mut coming, &mut left)?;
         zones_are_kept(known);
         zones_are_kept(&coming);
-        match invariant_after(before, known, round.failed, &coming)? {
-            None => return Ok(round),
+        match invariant_after(before, once, known, round.failed, &coming)? {
+            None => {
+                let last = end_rounds(once, round, &coming, known)?;
+                return Ok(last);
+            }
             Some(next) => *known = next,
         }
         before = one_more(before);

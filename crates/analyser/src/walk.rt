@@ -9,7 +9,7 @@ ghost use Rattle.ed_rules.specs.Rules.{step, fault_of};
 ghost use Rattle.analyser.specs.Walking.{IsLastRound, looped_of, IsTaken, IsWalk};
 
 use crate::paths::list_taken;
-use crate::rounds::{Round, settle};
+use crate::rounds::{Settled, settle};
 use cert_check::{Looped, Note, Place, Sight};
 use ed_base::{Bytes, Fault, Texts};
 use ed_rules::{KeptState, State, loop_end, needs_are_the_same_whatever_is_watched, outcome_into};
@@ -75,28 +75,28 @@ pub(crate) fn place_of(command: usize, inner: Option<usize>) -> Place
     Place { command, inner }
 }
 
-/// What a global command comes to whose own needs hold, by the last round of its list. From the invariant of that round, `left`
+/// What a global command comes to whose own needs hold, by the last round of its list. From what is known after the last line, `left`
 /// becomes the command's result.
 fn end_of_list(
     sight: &Sight,
     command: &Command,
     state: &State,
-    round: &Round,
+    settled: &Settled,
     left: &mut State,
 ) -> Result<End, AllocError>
     requires global { is_global (command_value command.now).verb ≡ true }
     requires needed { fault_of (step [] (command_value command.now) state.now) ≡ None }
-    requires last { IsLastRound sight.now (step_value command.now) (left_by sight.now (command_value command.now) state.now) left.old round.now }
-    ensures value { IfOk result (λ end. IsTaken sight.now (step_value command.now) state.now (Some (looped_of left.old round.now)) end left.new) }
+    requires last { IsLastRound sight.now (step_value command.now) (left_by sight.now (command_value command.now) state.now) left.old settled.now }
+    ensures value { IfOk result (λ end. IsTaken sight.now (step_value command.now) state.now (Some (looped_of settled.now)) end left.new) }
 {
-    match round.failed {
+    match settled.round.failed {
         None => {
             *left = loop_end(command, state, left)?;
             sight.tell(left);
             Ok(End::Leaves)
         }
         Some(why) => Ok(End::Stops {
-            inner: Some(round.inner.len()),
+            inner: Some(settled.round.inner.len()),
             why,
         }),
     }
@@ -116,13 +116,12 @@ fn take_global(
     requires start { left.old ≡ left_by sight.now (command_value command.now) state.now }
     ensures value { IfOk result (λ taken. IsTaken sight.now (step_value command.now) state.now taken.looped taken.end left.new) }
 {
-    let round = settle(alloc, sight, command, left)?;
-    let invariant = left.try_keep()?;
-    let end = end_of_list(sight, command, state, &round, left)?;
+    let settled = settle(alloc, sight, command, left)?;
+    let end = end_of_list(sight, command, state, &settled, left)?;
     Ok(Taken {
         looped: Some(Looped {
-            invariant,
-            inner: round.inner,
+            invariant: settled.invariant,
+            inner: settled.round.inner,
         }),
         end,
     })

@@ -18,7 +18,7 @@ pub use laws::{
     marked_starts_suffice, readings_are_told_apart, some_of_formed_facts_are_formed,
     starts_are_sound, texts_are_unambiguous, version_one_is_as_before,
 };
-pub use sight::Sight;
+pub use sight::{Entry, Sight};
 pub use text::fact_reading::{clear_in, known_in};
 pub use text::fact_writing::{write_facts, write_old_facts};
 pub use text::fault::CertFault;

@@ -1,13 +1,15 @@
 //! What a script is judged by, beside the states of its certificate.
 
-ghost use Rattle.std.specs.Prelude.{◌≡◌, IfOk};
+ghost use Rattle.std.specs.Prelude.{◌≡◌, true, IfOk};
 ghost use Rattle.ed_syntax.specs.PublicScript.{script_value};
-ghost use Rattle.cert_check.specs.checker.Valid.{sight_of, told};
+ghost use Rattle.ed_syntax.specs.PublicTypes.{command_value, step_value};
+ghost use Rattle.ed_syntax.specs.meaning.Verbs.{is_global};
+ghost use Rattle.cert_check.specs.checker.Valid.{sight_of, told, once_by, runs_once, entry_of};
 
 use crate::certificate::Version;
 use crate::in_form::put_in_form;
-use ed_rules::{State, Texts, Watch};
-use ed_syntax::Script;
+use ed_rules::{State, Texts, Watch, body_entry, once_entry};
+use ed_syntax::{Command, Script};
 use std::alloc::AllocError;
 
 /// The version of a certificate, and the patterns that are watched for; version 1 watches for none.
@@ -15,6 +17,14 @@ use std::alloc::AllocError;
 pub struct Sight {
     version: Version,
     watch: Watch,
+}
+
+/// The state in which a list is run for a line, as far as it is told.
+#[derive(Debug, Drop)]
+pub struct Entry {
+    pub state: State,
+    /// Whether the list is known to be run for one line alone.
+    pub once: bool,
 }
 
 impl Sight {
@@ -52,6 +62,35 @@ impl Sight {
             }
             Version::Two => state.forget_facts(),
             Version::Three => put_in_form(state),
+        }
+    }
+
+    /// The state in which a list is run, where it is known by the invariant that it is run for one line alone.
+    fn once_by(&self, command: &Command, invariant: &State) -> Result<Option<State>, AllocError>
+        ensures value { IfOk result (λ entry. entry ≡ once_by self.now.version (command_value command.now) invariant.now) }
+    {
+        match self.version {
+            Version::One | Version::Two => Ok(None),
+            Version::Three => once_entry(command, invariant),
+        }
+    }
+
+    /// The state in which the list of a global command is run for a line, by the invariant, and whether for one line alone.
+    pub fn enter(&self, command: &Command, invariant: &State) -> Result<Entry, AllocError>
+        requires global { is_global (command_value command.now).verb ≡ true }
+        ensures state { IfOk result (λ entry. entry.state ≡ entry_of self.now (step_value command.now) invariant.now) }
+        ensures once { IfOk result (λ entry. entry.once ≡ runs_once self.now (step_value command.now) invariant.now) }
+    {
+        match self.once_by(command, invariant)? {
+            None => {
+                let mut state = body_entry(command, invariant)?;
+                self.tell(&mut state);
+                Ok(Entry { state, once: false })
+            }
+            Some(mut state) => {
+                self.tell(&mut state);
+                Ok(Entry { state, once: true })
+            }
         }
     }
 }

@@ -135,6 +135,45 @@ static ROWS: [Row; 11] = [
     Row { script: b"g/B/d\nu\n/A/p\nQ\n", has: None, landmarks: FIRST, answer: Answer::Fails(3, None, Fault::NoMatch) },
 ];
 
+/// The start of the rows of a global command that takes one line alone.
+const ONLY: Option<&[&[u8]]> = Some(&[b"only /A/ tail 1"]);
+
+const PAST_THE_END: Answer = Answer::Fails(1, Some(1), Fault::Address);
+
+#[rattlefmt::skip]
+static ONCE: [Row; 14] = [
+    // The list is run for the one line that matches, so that what is known of it is known of the current line.
+    Row { script: b"g/A/+1d\nQ\n", has: None, landmarks: ONLY, answer: VOUCHED },
+    Row { script: b"g/A/p\\\n+1d\nQ\n", has: None, landmarks: ONLY, answer: VOUCHED },
+    // It is current after the list too, unless another line matches.
+    Row { script: b"g/A/p\n+1p\nQ\n", has: None, landmarks: ONLY, answer: VOUCHED },
+    Row { script: b"g/A/p\n+1p\nQ\n", has: None, landmarks: Some(&[b"/A/ tail 1"]), answer: Answer::Fails(2, None, Fault::Address) },
+    // No line need come after it, or other lines may match.
+    Row { script: b"g/A/+1d\nQ\n", has: None, landmarks: Some(&[b"only /A/"]), answer: PAST_THE_END },
+    Row { script: b"g/A/+1d\nQ\n", has: None, landmarks: Some(&[b"/A/ tail 1"]), answer: PAST_THE_END },
+    // `v` takes the others, and addresses may leave it out.
+    Row { script: b"v/A/+1d\nQ\n", has: None, landmarks: ONLY, answer: PAST_THE_END },
+    Row { script: b"1,$g/A/+1d\nQ\n", has: None, landmarks: ONLY, answer: PAST_THE_END },
+    Row { script: b"1g/A/+1d\nQ\n", has: None, landmarks: ONLY, answer: PAST_THE_END },
+    // The pattern isn't given.
+    Row { script: b"/A/p\ng//+1d\nQ\n", has: None, landmarks: ONLY, answer: Answer::Fails(2, Some(1), Fault::Address) },
+    // What the list leaves goes on, and not what was known before it.
+    Row { script: b"g/A/+1d\ng/A/+1d\nQ\n", has: None, landmarks: Some(&[b"only /A/ tail 2"]), answer: VOUCHED },
+    Row { script: b"g/A/+1d\ng/A/+1d\nQ\n", has: None, landmarks: ONLY, answer: Answer::Fails(2, Some(1), Fault::Address) },
+    Row { script: b"g/A/d\n/A/p\nQ\n", has: None, landmarks: ONLY, answer: Answer::Fails(2, None, Fault::NoMatch) },
+    // Without landmarks no line is known.
+    Row { script: b"g/A/+1d\nQ\n", has: Some(&[b"A"]), landmarks: None, answer: PAST_THE_END },
+];
+
+#[test]
+fn a_global_whose_pattern_one_line_matches_is_run_once(rt: HostRuntime) -> Result<(), Fail> {
+    for (index, row) in ONCE.iter().enumerate() {
+        let answer = row_answer(rt.alloc(), row)?;
+        assert_eq!(rt; answer, Some(row.answer), "row {index}");
+    }
+    Ok(())
+}
+
 #[test]
 fn globals_keep_what_is_known_of_lines(rt: HostRuntime) -> Result<(), Fail> {
     for (index, row) in ROWS.iter().enumerate() {

@@ -1,11 +1,11 @@
 -- Lines with the flag of a global command: each line that is taken loses it, at the end of the list none has it, and outside lists none
 -- had it before.
 use Rattle.std.proofs.Common.{◌≡◌, ◌<◌, ◌≤◌, ℕ, ◌+◌, Bool, true, false, cond, get_or, List, [], ◌∷◌, length, Option, None, Some, option_map, Ok, arith, refl, ◌∙◌, sym, ap, subst}
-use Rattle.std.specs.List.{position_from, count_by}
+use Rattle.std.specs.List.{count_by}
+use Rattle.std.proofs.lemmas.Bool.{false≢true}
 use Rattle.std.proofs.lemmas.List.Sums.{sum_by-set, sum_by-cons}
 use Rattle.std.proofs.lemmas.List.Elements.{All-nil, All-cons, All-set}
 use Rattle.std.proofs.lemmas.List.Quantifiers.{position-Some}
-use Rattle.std.proofs.lemmas.Iterator.Adapters.{position_from-zero}
 use Rattle.ed_base.specs.Buffer.{Line, plain_line, with_flag, flagged_at, flagged_place}
 use Rattle.ed_syntax.specs.declared.request.Answer.{Answer}
 use Rattle.ed_syntax.specs.Commands.{Command}
@@ -25,9 +25,6 @@ use Rattle.cert_check.specs.checker.Sound.{IsUnflagged}
 -- a line passes where it has no flag, or its bytes pass
 abbrev PassesBy : (List ℕ → Bool) → Line → Type 0
 PassesBy test line = line.flag ≡ true → test line.bytes ≡ true
-
-abbrev has_flag : Line → Bool
-has_flag line = line.flag
 
 -- THE LINE THAT IS TAKEN
 
@@ -72,20 +69,12 @@ none-left (l ∷ ls) h =
       | false ↦ λ e. All-cons (PassesBy passes_none) l ls (λ k. let z : false ≡ true = sym e ∙ k in absurd cc) (none-left ls (omega arith))
     ]) refl
 
-none-at : (i : ℕ) (ls : List Line) → position_from has_flag i ls ≡ None → FlaggedPass passes_none ls
-none-at i [] h = All-nil (PassesBy passes_none)
-none-at i (l ∷ ls) h =
-    (elim l.flag as (λ b. l.flag ≡ b → cond b (Some i) (position_from has_flag (i + 1) ls) ≡ None → FlaggedPass passes_none (l ∷ ls)) [
-      | true ↦ λ e k. absurd cc
-      | false ↦ λ e k. All-cons (PassesBy passes_none) l ls (λ f. let z : false ≡ true = sym e ∙ f in absurd cc) (none-at (i + 1) ls k)
-    ]) refl h
-
-place-none : (f : editor.State) (p : Option ℕ) → option_map (taken_at f) p ≡ None → p ≡ None
-place-none f None is = refl
-place-none f (Some place) is = absurd cc
-
-pub none-found : (f : editor.State) → next_taken f ≡ None → FlaggedPass passes_none f.lines
-none-found f is = none-at 0 f.lines (sym (position_from-zero has_flag f.lines) ∙ place-none f (flagged_place f.lines) is)
+-- where no line has the flag none is taken
+pub never-taken : (e f : editor.State) → next_taken e ≡ Some f → FlaggedPass passes_none e.lines → ⊥
+never-taken e f is none =
+    let q = taken-from e f (flagged_place e.lines) is in
+    let at = position-Some (λ (line : Line). line.flag) e.lines q.0 (plain_line []) q.1 in
+    false≢true (none q.0 (plain_line []) at.0 at.1)
 
 unflagged-none : (ls : List Line) → FlaggedPass passes_none (unflagged ls)
 unflagged-none [] = All-nil (PassesBy passes_none)

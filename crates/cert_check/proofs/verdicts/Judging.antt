@@ -14,10 +14,10 @@ use Rattle.cert_check.specs.declared.checker.verdict.Verdict.{Verdict}
 use Rattle.cert_check.specs.declared.checker.verdict.Verdict.TheVariants.{Accepted, Refused}
 use Rattle.cert_check.specs.Certificates.{Note, note_value, Certificate}
 use Rattle.cert_check.specs.declared.sight.Sight.{Sight}
-use Rattle.cert_check.specs.checker.Valid.{seen_by, told, Check, at_place, command_at, inner_at, at, verdict_of, counted, has_quit, are_met, left_by, are_listed, knows_least, knows_most, end_checks, command_checks, list_checks, left_after, checks_from, fits, are_shaped, judged}
-use Rattle.ed_rules.specs.Globals.{body_entry}
+use Rattle.cert_check.specs.checker.Valid.{seen_by, told, Check, at_place, command_at, inner_at, at, verdict_of, counted, has_quit, are_met, left_by, are_listed, knows_least, knows_most, end_checks, command_checks, list_checks, runs_once, entry_of, left_by_inner, after_turns, turn_checks, loop_checks, left_after, checks_from, fits, are_shaped, judged}
+use Rattle.ed_rules.specs.Globals.{loop_end}
 use Rattle.cert_check.specs.Certificates.{Looped}
-use Rattle.cert_check.specs.checker.Passing.{verdict_at, passed, ends_well, ListGoesTo, LoopGoesTo, StepGoesTo, GoesTo, verdict_after}
+use Rattle.cert_check.specs.checker.Passing.{verdict_at, passed, ends_well, ListGoesTo, after_turn, LoopGoesTo, StepGoesTo, GoesTo, verdict_after}
 use Rattle.cert_check.specs.checker.Sound.{CannotFail}
 use Rattle.ed_syntax.specs.meaning.Verbs.{is_step}
 use Rattle.std.specs.List.{list_all}
@@ -90,17 +90,53 @@ none-if true true false u e = refl
 none-if true false l u e = refl
 none-if false b l u e = refl
 
--- what the list of a global command leaves isn't covered by its invariant
-pub loop-off : (w : Sight) (number : ℕ) (writes : List (List ℕ)) (x : Step) (l : Looped) (known start t u : State) →
-    covers l.invariant start ≡ true →
-    ListGoesTo w number writes x.list l.inner (told w (body_entry x.command.verb l.invariant)) None t → covers l.invariant t ≡ false →
-    LoopGoesTo w number writes x l known start (Some (inner_at number (length x.list + 1))) u
-loop-off w number writes x l known start t u first goes again = λ later.
-    let turned : ℕ → State → List Check = λ inner s. at_place (inner_at number inner) (covers l.invariant s) ∷ later in
-    holds-at (covers l.invariant start) (command_at number)
-    (list_checks w number 1 writes (told w (body_entry x.command.verb l.invariant)) x.list l.inner turned) first
-    ∙ goes turned
-    ∙ fails-at (covers l.invariant t) (inner_at number (length x.list + 1)) later again
+-- the check of what a list leaves fails, or is passed
+
+uncovered-fails : (b : Bool) (p : Place) (invariant : State) (later : List Check) → cond b (Some invariant) None ≡ None →
+    verdict_of (at_place p b ∷ later) ≡ Refused p
+uncovered-fails true p invariant later e = absurd cc
+uncovered-fails false p invariant later e = refl
+
+covered-passes : (b : Bool) (p : Place) (invariant u : State) (later : List Check) → cond b (Some invariant) None ≡ Some u →
+    (verdict_of (at_place p b ∷ later) ≡ verdict_of later) × (invariant ≡ u)
+covered-passes true p invariant u later e = (refl, cc)
+covered-passes false p invariant u later e = absurd cc
+
+turn-off : (once : Bool) (p : Place) (invariant t : State) (later : List Check) → after_turn once invariant t ≡ None →
+    verdict_of (turn_checks once p invariant t later) ≡ Refused p
+turn-off true p invariant t later e = absurd cc
+turn-off false p invariant t later e = uncovered-fails (covers invariant t) p invariant later e
+
+turn-on : (once : Bool) (p : Place) (invariant t u : State) (later : List Check) → after_turn once invariant t ≡ Some u →
+    (verdict_of (turn_checks once p invariant t later) ≡ verdict_of later) × (cond once t invariant ≡ u)
+turn-on true p invariant t u later e = (refl, cc)
+turn-on false p invariant t u later e = covered-passes (covers invariant t) p invariant u later e
+
+module _ (w : Sight) (number : ℕ) (writes : List (List ℕ)) (x : Step) (l : Looped) (known start t : State) (first : covers l.invariant start ≡ true)
+    (goes : ListGoesTo w number writes x.list l.inner (entry_of w x l.invariant) None t) where
+  -- the last place of a list
+  abbrev past_list : Place
+  past_list = inner_at number (length x.list + 1)
+
+  turned-is : (later : List Check) →
+      verdict_of (loop_checks w number writes x l start later) ≡ verdict_of (turn_checks (runs_once w x l.invariant) past_list l.invariant t later)
+  turned-is later =
+      let turned : ℕ → State → List Check = λ inner s. turn_checks (runs_once w x l.invariant) (inner_at number inner) l.invariant s later in
+      holds-at (covers l.invariant start) (command_at number) (list_checks w number 1 writes (entry_of w x l.invariant) x.list l.inner turned) first
+      ∙ goes.1 turned
+
+  -- what the list of a global command leaves isn't covered by its invariant
+  pub loop-off : (u : State) → after_turn (runs_once w x l.invariant) l.invariant t ≡ None → LoopGoesTo w number writes x l known start (Some past_list) u
+  loop-off u again = λ later. turned-is later ∙ turn-off (runs_once w x l.invariant) past_list l.invariant t later again
+
+  -- all checks of what is known of a list hold
+  pub loop-on : (u end : State) → after_turn (runs_once w x l.invariant) l.invariant t ≡ Some u → end ≡ told w (loop_end x known u) →
+      LoopGoesTo w number writes x l known start None end
+  loop-on u end again is =
+      let once : Bool = runs_once w x l.invariant in
+      let after : u ≡ after_turns w x l =
+      sym (turn-on once past_list l.invariant t u [] again).1 ∙ ap (λ (s : State). cond once s l.invariant) goes.0 in
+      (is ∙ ap (λ (s : State). told w (loop_end x known s)) after, λ later. turned-is later ∙ (turn-on once past_list l.invariant t u later again).0)
 
 -- where all checks of a command hold, those after it are left
 pub command-on : (w : Sight) (p : Place) (writes : List (List ℕ)) (c : Command) (known coming t : State) →
@@ -178,6 +214,26 @@ module _ (w : Sight) (number : ℕ) (writes : List (List ℕ)) (list : List publ
       let none : drop index (map command_value list) ≡ [] = drop_all index (map command_value list) (omega arith) in
       ap (λ (cs : List Command). verdict_of (list_checks w number (index + 1) writes coming cs (drop index states) turned)) none
       ∙ ap (λ n. verdict_of (turned (n + 1) coming)) last
+
+-- what they leave, from a place on
+abbrev pub left_from : Sight → List public_command.Command → List State → (index : ℕ) → State → State
+left_from w list states index coming = left_by_inner w (drop index (map command_value list)) (drop index states) coming
+
+module _ (w : Sight) (writes : List (List ℕ)) (list : List public_command.Command) (states : List State) where
+  pub left-on : (index : ℕ) (d : public_command.Command) (known coming t : State) → index < length states →
+      length states ≡ length list → d ≡ get_or list index d → known ≡ get_or states index known →
+      passed w writes (command_value d) known coming ≡ Some t → left_from w list states index coming ≡ left_from w list states (index + 1) t
+  left-on index d known coming t h size is_d is_known is =
+      let on = command-on w (command_at 0) writes (command_value d) known coming t is in
+      let more : List Command = drop (index + 1) (map command_value list) in
+      ap (λ (cs : List Command). left_by_inner w cs (drop index states) coming) (mapped-here command_value list index d (omega arith) is_d)
+      ∙ ap (λ (ss : List State). left_by_inner w (command_value d ∷ more) ss coming) (at-place states index known h is_known)
+      ∙ ap (λ (u : State). left_by_inner w more (drop (index + 1) states) u) on.1
+
+  pub left-over : (index : ℕ) (coming : State) → index ≡ length states → length states ≡ length list → left_from w list states index coming ≡ coming
+  left-over index coming at_end size =
+      let counts : length (map command_value list) ≡ length list = length-map list command_value in
+      ap (λ (cs : List Command). left_by_inner w cs (drop index states) coming) (drop_all index (map command_value list) (omega arith))
 
 -- THE STEPS
 

@@ -9,7 +9,7 @@ use Rattle.cert_check.specs.declared.checker.verdict.Verdict.TheVariants.{Accept
 use Rattle.ed_rules.specs.Globals.{loop_end}
 use Rattle.cert_check.specs.declared.sight.Sight.{Sight}
 use Rattle.cert_check.specs.Certificates.{Looped, Note, Certificate}
-use Rattle.cert_check.specs.checker.Valid.{told, Check, command_at, verdict_of, are_met, left_by, are_listed, knows_least, knows_most, list_checks, loop_checks, left_after, step_checks, checks_from}
+use Rattle.cert_check.specs.checker.Valid.{told, Check, command_at, verdict_of, are_met, left_by, are_listed, knows_least, knows_most, left_by_inner, after_turns, list_checks, loop_checks, left_after, step_checks, checks_from}
 
 -- the verdict where all checks of a number hold, or where one fails
 abbrev pub verdict_at : (number : ℕ) → Bool → Verdict
@@ -34,17 +34,21 @@ abbrev pub ends_well : (quit : Bool) → (fault : Option ℕ) → Certificate �
 ends_well quit fault c coming =
     (quit || is_none fault) && (covers c.last coming && ((quit || not c.last.changed.yes) && (knows_least c.last.zone c.low && knows_most c.last.zone c.high)))
 
--- what the checks of a list come to, whatever those of what it leaves are: the place of the first that fails, or the state that is left
+-- what the checks of a list come to, whatever those of what it leaves are: the place of the first that fails, or what is left
 abbrev pub ListGoesTo : Sight → (number : ℕ) → (writes : List (List ℕ)) → List Command → List State → (entry : State) → (failed : Option Place) → (left : State) → Type 0
 ListGoesTo w number writes list states entry None t =
-    (turned : ℕ → State → List Check) → verdict_of (list_checks w number 1 writes entry list states turned) ≡ verdict_of (turned (length list + 1) t)
+    (t ≡ left_by_inner w list states entry) × ((turned : ℕ → State → List Check) → verdict_of (list_checks w number 1 writes entry list states turned) ≡ verdict_of (turned (length list + 1) t))
 ListGoesTo w number writes list states entry (Some place) t =
     (turned : ℕ → State → List Check) → verdict_of (list_checks w number 1 writes entry list states turned) ≡ Refused place
+
+-- what is known after the last line, by what the list leaves; there is none where the check of that fails
+abbrev pub after_turn : (once : Bool) → (invariant turned : State) → Option State
+after_turn once invariant turned = if once then Some turned else (if covers invariant turned then Some invariant else None)
 
 -- what the checks of what is known of a list come to, whatever those after it are
 abbrev pub LoopGoesTo : Sight → (number : ℕ) → (writes : List (List ℕ)) → Step → Looped → (known start : State) → (failed : Option Place) → (left : State) → Type 0
 LoopGoesTo w number writes x l known start None t =
-    (t ≡ told w (loop_end x known l.invariant)) × ((later : List Check) → verdict_of (loop_checks w number writes x l start later) ≡ verdict_of later)
+    (t ≡ told w (loop_end x known (after_turns w x l))) × ((later : List Check) → verdict_of (loop_checks w number writes x l start later) ≡ verdict_of later)
 LoopGoesTo w number writes x l known start (Some place) t = (later : List Check) → verdict_of (loop_checks w number writes x l start later) ≡ Refused place
 
 -- what the checks of a step come to

@@ -76,7 +76,7 @@ GoesWell c w s go = (m : Present) → StandsFor s m.state → IsUnflagged w.vers
 
 -- One global command, with its list, whatever comes after it: all its checks hold, of a state that comes in. Then from each editor
 -- that this state stands for its run stops well, or goes on with an editor that the state after it stands for (what the version tells of
--- `loop_end` of what is known before it and of the invariant): it runs well with all that goes well from there.
+-- `loop_end` of what is known before it and after its last line): it runs well with all that goes well from there.
 abbrev pub GlobalGoesWell : Type 0
 GlobalGoesWell = (w : Sight) (c : Certificate) (number : ℕ) (x : Step) (n : Note) (coming : State) (later : List Check) (go : Further) →
     IsTrue (is_step x) → IsTrue (is_global x.command.verb) → IsTrue (fits x n) → verdict_of (step_checks w number c.writes x n coming later) ≡ Accepted →

@@ -1,5 +1,5 @@
 -- Which certificates are valid for a script: the checks in their order, each with its place.
-use Rattle.std.specs.Prelude.{ℕ, ◌+◌, ◌==◌, pos, neg_ℤ, Bool, true, false, not, ◌&&◌, ◌||◌, List, [], ◌∷◌, length, Option, Some, None, is_none, Ok, Err, nat_eq}
+use Rattle.std.specs.Prelude.{ℕ, ◌+◌, ◌==◌, pos, neg_ℤ, Bool, true, false, not, ◌&&◌, ◌||◌, List, [], ◌∷◌, length, Option, Some, None, is_none, is_some, if◌then◌else◌, Ok, Err, nat_eq}
 use Rattle.std.specs.List.{list_all, list_any}
 use Rattle.std.specs.Cmp.Lexicographic.{pointwise}
 use Rattle.zones.specs.Name as name
@@ -18,7 +18,7 @@ use Rattle.cert_check.specs.checker.Covering.{covers}
 use Rattle.cert_check.specs.checker.Beginning.{chains_of, has_letters, start_of}
 use Rattle.cert_check.specs.checker.InForm.{state_in_form}
 use Rattle.ed_rules.specs.Rules.{step, fault_of}
-use Rattle.ed_rules.specs.Globals.{body_entry, loop_end}
+use Rattle.ed_rules.specs.Globals.{body_entry, once_entry, loop_end}
 use Rattle.cert_check.specs.declared.checker.verdict.Place.{Place}
 use Rattle.cert_check.specs.declared.checker.verdict.Verdict.{Verdict}
 use Rattle.cert_check.specs.declared.checker.verdict.Verdict.TheVariants.{Accepted, Refused}
@@ -126,12 +126,43 @@ list_checks w number inner writes coming (c ∷ cs) [] turned = turned inner com
 list_checks w number inner writes coming (c ∷ cs) (s ∷ states) turned =
     command_checks (inner_at number inner) writes c s coming (list_checks w number (inner + 1) writes (left_by w c s) cs states turned)
 
+-- The state in which a list is run, where it is known by the invariant that it is run for one line alone. Versions 1 and 2, which tell
+-- nothing of single lines, don't ask.
+abbrev pub once_by : Version → Command → (invariant : State) → Option State
+once_by version.One c invariant = None
+once_by version.Two c invariant = None
+once_by version.Three c invariant = once_entry c invariant
+
+abbrev pub runs_once : Sight → Step → (invariant : State) → Bool
+runs_once w x invariant = is_some (once_by w.version x.command invariant)
+
+-- the state in which a list is run for a line, as far as it is told
+abbrev pub entry_of : Sight → Step → (invariant : State) → State
+entry_of w x invariant =
+    told w (elim (once_by w.version x.command invariant) as (λ _. State) [ None ↦ body_entry x.command.verb invariant | Some entry ↦ entry ])
+
+-- what a list leaves, by what is known before each of its commands
+abbrev pub left_by_inner : Sight → List Command → List State → (coming : State) → State
+left_by_inner w [] states coming = coming
+left_by_inner w (c ∷ cs) [] coming = coming
+left_by_inner w (c ∷ cs) (s ∷ states) coming = left_by_inner w cs states (left_by w c s)
+
+-- what is known after the last line: what is known at every turn, or what the list leaves where it is run once
+abbrev pub after_turns : Sight → Step → Looped → State
+after_turns w x l = if runs_once w x l.invariant then left_by_inner w x.list l.inner (entry_of w x l.invariant) else l.invariant
+
+-- the check of what the list leaves, and those after it: of a list that is run once nothing is asked
+abbrev pub turn_checks : (once : Bool) → Place → (invariant turned : State) → (later : List Check) → List Check
+turn_checks true place invariant turned later = later
+turn_checks false place invariant turned later = at_place place (covers invariant turned) ∷ later
+
 -- The checks of what is known of a list, and those after it: the invariant says no more than the state before the first line is taken,
--- and no more than what the list leaves of the state in which it is run for a line.
+-- and no more than what the list leaves of the state in which it is run for a line, unless it is run once.
 abbrev pub loop_checks : Sight → (number : ℕ) → (writes : List (List ℕ)) → Step → Looped → (start : State) → (later : List Check) → List Check
 loop_checks w number writes x l start later =
     at number (covers l.invariant start)
-    ∷ list_checks w number 1 writes (told w (body_entry x.command.verb l.invariant)) x.list l.inner (λ inner turned. at_place (inner_at number inner) (covers l.invariant turned) ∷ later)
+    ∷ list_checks w number 1 writes (entry_of w x l.invariant) x.list l.inner
+    (λ inner turned. turn_checks (runs_once w x l.invariant) (inner_at number inner) l.invariant turned later)
 
 -- a global command has a list, of which something is known; all others have none
 abbrev pub looped_checks : Sight → Option Looped → (number : ℕ) → (writes : List (List ℕ)) → Step → (known : State) → (later : List Check) → List Check
@@ -141,7 +172,7 @@ looped_checks w (Some l) number writes x known later = loop_checks w number writ
 -- the state after a step
 abbrev pub left_after : Sight → Option Looped → Step → (known : State) → State
 left_after w None x known = left_by w x.command known
-left_after w (Some l) x known = told w (loop_end x known l.invariant)
+left_after w (Some l) x known = told w (loop_end x known (after_turns w x l))
 
 -- the checks of a step with its note, of which a state comes in, and those after it
 abbrev pub step_checks : Sight → (number : ℕ) → (writes : List (List ℕ)) → Step → Note → (coming : State) → (later : List Check) → List Check

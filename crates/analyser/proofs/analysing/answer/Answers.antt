@@ -87,6 +87,7 @@ returns-in-None-clause-valid c =
       join = c.states_stay_formed.ensures.join;
       widen = c.states_stay_formed.ensures.widen;
       entry = c.states_stay_formed.ensures.entry;
+      once = c.states_stay_formed.ensures.once;
       end = c.states_stay_formed.ensures.end;
     } in
     let matches : MatchLaws = record {
@@ -95,6 +96,7 @@ returns-in-None-clause-valid c =
       join = c.matches_stay_formed.ensures.join;
       widen = c.matches_stay_formed.ensures.widen;
       entry = c.matches_stay_formed.ensures.entry;
+      once = c.matches_stay_formed.ensures.once;
       end = c.matches_stay_formed.ensures.end;
       watched = c.matches_stay_formed.ensures.watched;
     } in
@@ -110,6 +112,7 @@ returns-in-None-clause-texts c =
       join = c.states_stay_formed.ensures.join;
       widen = c.states_stay_formed.ensures.widen;
       entry = c.states_stay_formed.ensures.entry;
+      once = c.states_stay_formed.ensures.once;
       end = c.states_stay_formed.ensures.end;
     } in
     let matches : MatchLaws = record {
@@ -118,6 +121,7 @@ returns-in-None-clause-texts c =
       join = c.matches_stay_formed.ensures.join;
       widen = c.matches_stay_formed.ensures.widen;
       entry = c.matches_stay_formed.ensures.entry;
+      once = c.matches_stay_formed.ensures.once;
       end = c.matches_stay_formed.ensures.end;
       watched = c.matches_stay_formed.ensures.watched;
     } in

@@ -17,7 +17,9 @@ returns c =
       begun = c.globals_are_sound.ensures.start;
       flags = c.globals_are_sound.ensures.flags;
       taken = c.globals_are_sound.ensures.taken;
+      none = c.globals_are_sound.ensures.none;
       turn = c.globals_are_sound.ensures.turn;
+      once = c.globals_are_sound.ensures.once;
       over = c.globals_are_sound.ensures.end;
     } in
     record { sound = global-goes-well laws }
