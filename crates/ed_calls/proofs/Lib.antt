@@ -9,7 +9,6 @@ mod KnownStates
 mod LandmarkedStarts
 mod LetterCounts
 mod LikeStarts
-mod Nowhere
 mod Sayings
 mod StartTested
 mod StatedPatterns

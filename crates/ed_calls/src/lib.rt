@@ -31,7 +31,7 @@ pub use fitting::fit;
 pub use held_writes::show_held;
 pub use judgement::{Detail, judge_text};
 pub use known::{Change, Known};
-pub use landmarked::{TooFewLetters, no_file_has, too_few_letters};
+pub use landmarked::{TooFewLetters, too_few_letters};
 pub use laws::accepted_runs_end_well;
 pub use running::{Ran, run, run_checked};
 pub use starts::Starts;

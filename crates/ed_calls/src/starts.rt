@@ -103,10 +103,13 @@ impl Starts {
         }
     }
 
-    /// Whether it may have any number of lines, as far as is given.
+    /// Whether nothing is given of which lines it has, but patterns.
     pub(crate) fn are_unbounded(&self) -> bool {
         match self {
-            Starts::Widest(given) => given.min.is_none() && given.max.is_none(),
+            // Where landmarks are given, no file may be that has as many lines as are meant.
+            Starts::Widest(given) => {
+                given.min.is_none() && given.max.is_none() && given.landmarks.is_none()
+            }
             Starts::Given(_) | Starts::Like(_) => false,
         }
     }

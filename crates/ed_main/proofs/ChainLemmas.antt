@@ -6,7 +6,8 @@ use Rattle.std.proofs.lemmas.List.Elements.{All-nil, All-head, All-tail, All-get
 use Rattle.landmarks.specs.declared.landmark.Landmark.{Landmark}
 use Rattle.landmarks.specs.ChainValues.{ChainValue}
 use Rattle.landmarks.specs.Spelled.{SpellsChain, NoChain}
-use Rattle.ed_calls.specs.Landmarked.{AreSpelled, IsSpelled, SomeFileHas, texts_of}
+use Rattle.hints.specs.Nowhere.{SomeFileHas}
+use Rattle.ed_calls.specs.Landmarked.{AreSpelled, IsSpelled, texts_of}
 use Rattle.ed_main.specs.Chains.{AreHad}
 
 pub none_spelled : AreSpelled [] []

@@ -1,7 +1,8 @@
 -- The chains of landmarks that words give, of which the job that they give has the texts (our own).
 use Rattle.std.specs.Prelude.{◌≡◌, ◌≢◌, ℕ, List, [], Option}
 use Rattle.landmarks.specs.ChainValues.{ChainValue}
-use Rattle.ed_calls.specs.Landmarked.{AreSpelled, SomeFileHas}
+use Rattle.hints.specs.Nowhere.{SomeFileHas}
+use Rattle.ed_calls.specs.Landmarked.{AreSpelled}
 use Rattle.ed_calls.specs.Starts.{with_landmarks}
 use Rattle.ed_calls.specs.declared.starts.Starts.{Starts}
 

@@ -8,7 +8,7 @@ ghost use Rattle.ed_main.specs.Words.{IsAsked};
 use crate::stderr::chain::{held_nowhere, wrong_chain};
 use crate::words::WordsFault;
 use ed_base::Bytes;
-use ed_calls::no_file_has;
+use hints::no_file_has;
 use landmarks::{LandmarkChain, LandmarkChains, chains_are_spelled_once};
 use std::alloc::Global;
 use std::marker::Model;

@@ -14,6 +14,7 @@ use Rattle.hints.specs.declared.given.Given.{Given}
 use Rattle.hints.specs.declared.hint.Hint.{Hint}
 use Rattle.hints.specs.Passing.{IsAllowed, IsVouched, IsStating, IsWithin, Keeps, chains_in}
 use Rattle.hints.specs.Widest.{start_with, beside, addable, StatesNeeded, as_given, with_more, IsWidest}
+use Rattle.hints.specs.Nowhere.{IsNowhere}
 use Rattle.hints.specs.Landmarks.{with_landmarks, given_of, marked_by, IsEachNeeded, StatesLandmarks, IsLandmarked}
 use Rattle.hints.specs.Narrowing.{AreEnough}
 use Rattle.hints.specs.Hints.{IsUnchanged, IsTried}
@@ -71,7 +72,9 @@ states-needed : (script : Script) (start then : Start) → IsLandmarked script (
 states-needed script start then is = record { added = is.added; states = is.widest.landmarks; vouched = is.widest.vouched; needed = is.needed }
 
 pub tried_marked : (start : Start) (place : Place) (h : Hint) (script : List ℕ) (then : Start) → IsLandmarked (script_of script) (given_of start) then →
+    (IsNowhere then → ⊥) →
     h.script ≡ script → h.start ≡ then → IsUnchanged place h.past h.change → IsTried script start place h
-tried_marked start place h script then is reads starts unchanged =
+tried_marked start place h script then is somewhere reads starts unchanged =
     tried-vouched start place h script then (keeps-marked (script_of script) start then is) (inr (refl, states-needed (script_of script) start then is))
+    (λ nowhere. absurd (somewhere nowhere))
     is.widest.allowed is.widest.vouched reads starts unchanged

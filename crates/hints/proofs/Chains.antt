@@ -12,7 +12,7 @@ use Rattle.ed_syntax.specs.reading.Reading.{script_of}
 use Rattle.cert_check.specs.declared.checker.verdict.Place.{Place}
 use Rattle.hints.specs.Passing.{IsAllowed, IsVouched, MoreLinesHelp, Keeps, GetsPastWhole, last_of}
 use Rattle.hints.specs.Passing as passing
-use Rattle.hints.specs.Hints.{IsUnchanged, IsFrom, DoesTheSame, IsMarked, IsTried, AsksForMore, IsStated, IsRefusal, IsMended, none, more, AreRefusals, mended, stopped, cut}
+use Rattle.hints.specs.Hints.{IsUnchanged, IsFrom, DoesTheSame, IsMarked, StaysSomewhere, IsTried, AsksForMore, IsStated, IsRefusal, IsMended, none, more, AreRefusals, mended, stopped, cut}
 use Rattle.hints.specs.Hints as hints
 
 -- a list that isn't empty is its first element and the others
@@ -69,9 +69,9 @@ stays-allowed r h hs bounded is hints starts =
 
 -- a hint of a script and a start that were tried, over a start that keeps what another one says
 pub tried-by : (old : List ℕ) (given : Start) (place : Place) (h : Hint) (script : List ℕ) (start : Start) (count : ℕ) → Keeps given start →
-    IsMarked old given script start → IsAllowed start → GetsPastWhole (script_of script) start (last_of place count) → h.script ≡ script → h.start ≡ start → h.past ≡ count → IsFrom place old script count h.change →
+    IsMarked old given script start → StaysSomewhere given start → IsAllowed start → GetsPastWhole (script_of script) start (last_of place count) → h.script ≡ script → h.start ≡ start → h.past ≡ count → IsFrom place old script count h.change →
     (IsTrue h.same → DoesTheSame old script h.change) → IsTried old given place h
-tried-by old given place h script start count kept marked allowed past reads starts counts is-from same = record {
+tried-by old given place h script start count kept marked somewhere allowed past reads starts counts is-from same = record {
   from =
       subst (λ (s : List ℕ). IsFrom place old s h.past h.change) (sym reads)
       (subst (λ (n : ℕ). IsFrom place old script n h.change) (sym counts) is-from);
@@ -80,6 +80,7 @@ tried-by old given place h script start count kept marked allowed past reads sta
   marked =
       subst (λ (s : Start). IsMarked old given h.script s) (sym starts)
       (subst (λ (s : List ℕ). IsMarked old given s start) (sym reads) marked);
+  somewhere = subst (λ (s : Start). StaysSomewhere given s) (sym starts) somewhere;
   allowed = subst IsAllowed (sym starts) allowed;
   past =
       subst (λ (s : Start). GetsPastWhole (script_of h.script) s (last_of place h.past)) (sym starts)
@@ -132,6 +133,6 @@ goes-on-count told all r n pushed count = subst (λ (rs : List Refusal). length 
 
 -- a hint of a script that is vouched for over a start that keeps what another one says
 pub tried-vouched : (given : Start) (place : Place) (h : Hint) (script : List ℕ) (start : Start) → Keeps given start →
-    IsMarked script given script start → IsAllowed start → IsVouched (script_of script) start → h.script ≡ script → h.start ≡ start → IsUnchanged place h.past h.change → IsTried script given place h
-tried-vouched given place h script start kept marked allowed is reads starts unchanged =
-    tried-by script given place h script start h.past kept marked allowed (λ inner low. passing.vouched is) reads starts refl (hints.same refl unchanged) (λ told. inl refl)
+    IsMarked script given script start → StaysSomewhere given start → IsAllowed start → IsVouched (script_of script) start → h.script ≡ script → h.start ≡ start → IsUnchanged place h.past h.change → IsTried script given place h
+tried-vouched given place h script start kept marked somewhere allowed is reads starts unchanged =
+    tried-by script given place h script start h.past kept marked somewhere allowed (λ inner low. passing.vouched is) reads starts refl (hints.same refl unchanged) (λ told. inl refl)

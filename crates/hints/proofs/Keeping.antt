@@ -11,8 +11,9 @@ use Rattle.analyser.specs.Following.{stated_of}
 use Rattle.hints.specs.declared.hint.Hint.{Hint}
 use Rattle.hints.specs.Passing.{IsVouched, IsStating, chains_in, IsLandmarking, IsWithin, Keeps}
 use Rattle.ed_syntax.specs.reading.Reading.{script_of}
+use Rattle.hints.specs.Nowhere.{IsSeenNowhere, IsNowhere}
 use Rattle.hints.specs.Landmarks.{marked_by}
-use Rattle.hints.specs.Hints.{IsMarked, IsTried}
+use Rattle.hints.specs.Hints.{IsMarked, StaysSomewhere, IsTried}
 
 -- the most lines lie within themselves
 pub within-itself : (most : Option ℕ) → IsWithin most most
@@ -98,19 +99,26 @@ marked-for old given then new start same (inr (reads, states)) = inr (
   },
 )
 
+-- with as many lines at most and the same landmarks it is seen of both or of none
+same-nowhere : (start then : Start) → then.max ≡ start.max → then.landmarks ≡ start.landmarks → IsNowhere then → IsNowhere start
+same-nowhere start then most same nowhere =
+    subst (λ (l : Option (List ChainValue)). IsSeenNowhere start.max (chains_in l)) same
+    (subst (λ (m : Option ℕ). IsSeenNowhere m (chains_in then.landmarks)) most nowhere)
+
 -- so a hint that was tried over a start that keeps what another one says, its landmarks unchanged, was tried for that one
 pub tried-for : (script : List ℕ) (start then : Start) (place : Place) (r : Result (Option Hint) AllocError) → Keeps start then →
-    then.landmarks ≡ start.landmarks → IfOk r (λ found. IfSome found (IsTried script then place)) → IfOk r (λ found. IfSome found (IsTried script start place))
-tried-for script start then place (Ok (Some h)) kept same tried = record {
+    then.max ≡ start.max → then.landmarks ≡ start.landmarks → IfOk r (λ found. IfSome found (IsTried script then place)) → IfOk r (λ found. IfSome found (IsTried script start place))
+tried-for script start then place (Ok (Some h)) kept most same tried = record {
   from = tried.from;
   same = tried.same;
   kept = keeps-through start then h.start kept tried.kept;
   marked = marked-for script start then h.script h.start same tried.marked;
+  somewhere = λ nowhere. same-nowhere start then most same (tried.somewhere nowhere);
   allowed = tried.allowed;
   past = tried.past;
 }
-tried-for script start then place (Ok None) kept same tried = tt
-tried-for script start then place (Err e) kept same tried = tt
+tried-for script start then place (Ok None) kept most same tried = tt
+tried-for script start then place (Err e) kept most same tried = tt
 
 -- a start with more patterns keeps what was stated
 pub keeps-patterns : (start then : Start) (patterns : List (List ℕ)) →

@@ -9,5 +9,6 @@ mod Narrowed
 mod Proposed
 mod Stated
 mod ByLandmarks
+mod NoFile
 mod SoughtRows
 mod Worked

@@ -15,6 +15,7 @@ use Rattle.hints.specs.declared.hint.Hint.{Hint}
 use Rattle.hints.specs.declared.refusing.Refusal.{Refusal}
 use Rattle.hints.specs.Passing.{IsAllowed, IsVouched, with_min, MoreLinesHelp, Keeps, GetsPastWhole, last_of}
 use Rattle.hints.specs.Sought.{to_state, stating, StatingHelps}
+use Rattle.hints.specs.Nowhere.{IsNowhere}
 use Rattle.hints.specs.Landmarks.{StatesLandmarks}
 
 -- HOW A HINT'S SCRIPT COMES FROM THE ONE THAT IS REFUSED
@@ -82,16 +83,21 @@ DoesTheSame old new c = (new ≡ old) ⊎ AreGlobal (script_of old) (script_of n
 abbrev pub IsMarked : (old : List ℕ) → (given : Start) → (new : List ℕ) → Start → Type 0
 IsMarked old given new start = (start.landmarks ≡ given.landmarks) ⊎ ((new ≡ old) × StatesLandmarks (script_of old) given start)
 
+-- it isn't seen that no file has the landmarks of a start, unless it is seen of the one that was given
+abbrev pub StaysSomewhere : (given start : Start) → Type 0
+StaysSomewhere given start = IsNowhere start → IsNowhere given
+
 -- A hint on a script over a start was tried: the script as it reads by it, over the start that it names, gets past as many commands from the
 -- place on as the hint tells, the last of them with all of its list. Of none, it gets past those before the place. It comes from the first
 -- script by the change that the hint tells, and where it tells so, that does the same. That start keeps the path of the first one and the
 -- patterns that it states, and asks for no other number of lines than that one allows. It states no other landmarks than that one but those that
--- are needed.
+-- are needed, and none of which it is seen that no file of so many lines has them.
 pub record IsTried (script : List ℕ) (start : Start) (place : Place) (h : Hint) : Type 0 where
   pub from : IsFrom place script h.script h.past h.change
   pub same : IsTrue h.same → DoesTheSame script h.script h.change
   pub kept : Keeps start h.start
   pub marked : IsMarked script start h.script h.start
+  pub somewhere : StaysSomewhere start h.start
   pub allowed : IsAllowed h.start
   pub past : GetsPastWhole (script_of h.script) h.start (last_of place h.past)
 

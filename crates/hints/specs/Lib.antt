@@ -2,6 +2,7 @@
 pub mod Passing
 pub mod Sought
 pub mod Widest
+pub mod Nowhere
 pub mod Landmarks
 pub mod Like
 -- what hints promise, over scripts as they are read from bytes (`script_of`)

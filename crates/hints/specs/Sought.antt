@@ -1,5 +1,5 @@
 -- The patterns that the searches of a command look for and that no line need match, and where it helps to state them (our own).
-use Rattle.std.specs.Prelude.{◌≡◌, ◌≢◌, ◌-◌, ◌⊎◌, ℕ, Bool, true, false, not, ◌||◌, ◌==◌, List, [], ◌∷◌, length, All, Option, Some, None, slice_get, if◌then◌else◌}
+use Rattle.std.specs.Prelude.{◌≡◌, ◌≢◌, ◌<◌, ◌-◌, ◌⊎◌, ℕ, Bool, true, false, not, ◌||◌, ◌==◌, List, [], ◌∷◌, length, All, Option, Some, None, slice_get, if◌then◌else◌}
 use Rattle.std.specs.List.{filter, filter_map, flat_map, list_all}
 use Rattle.std.specs.Option.{unwrap_or}
 use Rattle.std.specs.Char.{is_control}
@@ -17,7 +17,7 @@ use Rattle.cert_check.specs.declared.checker.verdict.Place.{Place}
 use Rattle.cert_check.specs.Certificates.{Looped, Note}
 use Rattle.analyser.specs.declared.analysis.Start.{Start}
 use Rattle.analyser.specs.Following.{stated_of}
-use Rattle.hints.specs.Passing.{GetsPast, MoreLinesHelp}
+use Rattle.hints.specs.Passing.{GetsPast, MoreLinesHelp, most_of}
 
 -- WHAT IS LOOKED FOR
 
@@ -129,9 +129,10 @@ GetsPastAll script start place = (inner : ℕ) → GetsPast script start (record
 abbrev pub stating : Start → List (List ℕ) → Start
 stating start patterns = record { path = start.path; min = start.min; max = start.max; has = Some (with_texts patterns (stated_of start.has)); landmarks = start.landmarks }
 
--- It helps to state these patterns: there are some, each can be typed, and over the start that states them too the script gets past the
--- place with all of the command's list, or more lines help.
+-- It helps to state these patterns: there are some, there may be a line, each can be typed, and over the start that states them too the script
+-- gets past the place with all of the command's list, or more lines help.
 pub record StatingHelps (script : Script) (start : Start) (place : Place) (patterns : List (List ℕ)) : Type 0 where
   pub some : patterns ≢ []
+  pub room : 0 < most_of start.max
   pub typable : All IsTypable patterns
   pub past : GetsPastAll script (stating start patterns) place ⊎ MoreLinesHelp script (stating start patterns)

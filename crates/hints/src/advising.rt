@@ -14,10 +14,11 @@ use crate::drafts::Draft;
 use crate::further::{with_more_lines, with_needed_lines};
 use crate::hint::{Advice, Change, Hint, Remark};
 use crate::marked::with_landmark;
+use crate::nowhere::is_nowhere;
 use crate::passing::gets_past_all;
 use crate::rewritings::drafts_at;
 use crate::sought::{is_of_search, unmatched_at};
-use crate::starts::{copy_of, greatest_start, least_start, with_bounds};
+use crate::starts::{copy_of, greatest_start, least_start, top_of, with_bounds};
 use crate::stating::with_stated;
 use analyser::Start;
 use cert_check::{Note, Place};
@@ -146,7 +147,8 @@ fn has_room(start: &Start, most: u64) -> bool {
     }
 }
 
-/// The greatest number of lines under which the script is vouched for. One that no file is likely to have helps nobody.
+/// The greatest number of lines under which the script is vouched for. One that no file is likely to have helps nobody, nor one with which none
+/// has the landmarks.
 fn at_most(
     alloc: Global,
     script: &[u8],
@@ -159,19 +161,27 @@ fn at_most(
     requires high { IfSome start.now.max (λ most. most ≤ most_lines) }
     ensures tried { IfOk result (λ found. IfSome found (IsTried script.now start.now place)) }
 {
-    match greatest_start(alloc, script, start)? {
-        Some(most) if has_room(start, most) => Ok(Some(Hint {
-            advice: Advice::AtMost,
-            line,
-            text: format!(in alloc; "vouched for with --max {most}")?,
-            script: Bytes::from_slice(alloc, script)?,
-            start: with_bounds(start, start.min, Some(most))?,
-            past: 1,
-            change: unchanged_at(place),
-            same: true,
-        })),
-        _ => Ok(None),
+    let Some(most) = greatest_start(alloc, script, start)? else {
+        return Ok(None);
+    };
+    if !has_room(start, most) {
+        return Ok(None);
     }
+    let fewer = with_bounds(start, start.min, Some(most))?;
+    if is_nowhere(alloc, &fewer)? {
+        return Ok(None);
+    }
+    let same = Bytes::from_slice(alloc, script)?;
+    Ok(Some(Hint {
+        advice: Advice::AtMost,
+        line,
+        text: format!(in alloc; "vouched for with --max {most}")?,
+        script: same,
+        start: fewer,
+        past: 1,
+        change: unchanged_at(place),
+        same: true,
+    }))
 }
 
 /// Puts a hint after those that were found.
@@ -247,7 +257,7 @@ fn or_both(
     Ok(found)
 }
 
-/// The hints that were found, and one to state landmarks where a search or an `s` fails.
+/// The hints that were found, and one to state landmarks where a search or an `s` fails, or a line may be moved to where it is.
 fn and_marked(
     alloc: Global,
     script: &[u8],
@@ -266,7 +276,7 @@ fn and_marked(
     ensures also { IfOk result (λ all. (patterns : List (List ℕ)) →
         Any (States script.now start.now patterns) found.items → Any (States script.now start.now patterns) all.items) }
 {
-    if !is_of_search(why) {
+    if !is_of_search(why) && why != Fault::Destination {
         return Ok(found);
     }
     let mut found = found;
@@ -302,6 +312,10 @@ fn and_stated(
     ensures states { IfOk result (λ all. StatingHelps (script_of script.now) start.now place patterns.now → Any (States script.now start.now patterns.now) all.items) }
 {
     if patterns.members().is_empty() {
+        return Ok(found);
+    }
+    // Where there may be no line, none matches.
+    if top_of(start.max) == 0 {
         return Ok(found);
     }
     let mut found = found;

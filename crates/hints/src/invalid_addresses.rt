@@ -1,6 +1,8 @@
 //! Why a command's addresses may be invalid: they are evaluated as its rule does, up to the first one that isn't surely there.
 
 use crate::commands::pair;
+use crate::evaluated::Evaluated;
+use ed_rules::KeptState;
 use ed_syntax::{Address, Addresses, Base, Command, DefaultAddresses, Taking};
 use std::alloc::{AllocError, Global};
 use zones::{Name, Zone};
@@ -45,28 +47,6 @@ fn base_text(alloc: Global, base: &Base) -> Result<String, AllocError> {
     }
 }
 
-/// Sets a name to an address.
-fn place(zone: &mut Zone, name: Name, address: &Address) {
-    match &address.base {
-        Base::Number(number) => {
-            zone.set_wide(
-                name,
-                Name::ZERO,
-                i128::from(*number).saturating_add(address.offset),
-            );
-        }
-        Base::Current => zone.set_wide(name, Name::CURRENT_LINE, address.offset),
-        Base::Last => zone.set_wide(name, Name::LAST_LINE, address.offset),
-        Base::Marked(letter) => zone.set_wide(name, Name::of(*letter), address.offset),
-        Base::Forward(_) | Base::Backward(_) => {
-            zone.forget(name);
-            zone.guard(Name::ZERO, name, -1);
-            zone.guard(name, Name::LAST_LINE, 0);
-            zone.shift_wide(name, Some(address.offset), Some(address.offset));
-        }
-    }
-}
-
 /// Why the line that an address names need not be one from `lowest` on, where it was placed.
 fn short_text(
     alloc: Global,
@@ -96,16 +76,16 @@ fn short_text(
 }
 
 /// Places an address, and tells why it need not be in the buffer.
-fn placed(
+fn placed<'a>(
     alloc: Global,
-    zone: &mut Zone,
+    known: &mut Evaluated<'a>,
     name: Name,
-    address: Option<&Address>,
+    address: Option<&'a Address>,
 ) -> Result<Option<String>, AllocError> {
     match address {
         Some(address) => {
-            place(zone, name, address);
-            short_text(alloc, zone, name, address, 0)
+            known.place(name, address)?;
+            short_text(alloc, &known.zone, name, address, 0)
         }
         None => Ok(None),
     }
@@ -143,7 +123,7 @@ fn range_text(
 /// Why an address of a command may be invalid, where this is known of lines.
 pub(crate) fn address_text(
     alloc: Global,
-    zone: &Zone,
+    state: &KeptState,
     command: &Command,
 ) -> Result<Option<String>, AllocError> {
     let takes = command.verb.takes();
@@ -156,21 +136,21 @@ pub(crate) fn address_text(
         Addresses::Without => &own,
         given => given,
     };
-    let mut zone = *zone;
+    let mut known = Evaluated::before(alloc, state)?;
     let (first, second) = pair(addresses);
-    if let Some(text) = placed(alloc, &mut zone, Name::FIRST_ADDRESS, first)? {
+    if let Some(text) = placed(alloc, &mut known, Name::FIRST_ADDRESS, first)? {
         return Ok(Some(text));
     }
     if matches!(addresses, Addresses::Semicolon(_, _)) {
-        zone.set(Name::CURRENT_LINE, Name::FIRST_ADDRESS, 0);
+        known.go_to(Name::FIRST_ADDRESS)?;
     }
-    if let Some(text) = placed(alloc, &mut zone, Name::SECOND_ADDRESS, second)? {
+    if let Some(text) = placed(alloc, &mut known, Name::SECOND_ADDRESS, second)? {
         return Ok(Some(text));
     }
-    if let Some(text) = placed(alloc, &mut zone, Name::TARGET_ADDRESS, takes.target)? {
+    if let Some(text) = placed(alloc, &mut known, Name::TARGET_ADDRESS, takes.target)? {
         return Ok(Some(text));
     }
-    match range_text(alloc, &zone, takes.taking, (first, second))? {
+    match range_text(alloc, &known.zone, takes.taking, (first, second))? {
         None if command.suffix.is_some() => {
             let text = String::from_str(alloc, "no line need be left to write")?;
             Ok(Some(text))

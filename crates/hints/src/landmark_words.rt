@@ -129,8 +129,8 @@ fn said_of(alloc: Global, landmark: &Landmark, is_below: bool) -> Result<Vec<Str
         }
         _ => {}
     }
-    push_matched(alloc, &mut said, "matches", &landmark.also)?;
-    push_matched(alloc, &mut said, "doesn't match", &landmark.lacks)?;
+    push_matched(alloc, &mut said, "matches", &landmark.also, " and ")?;
+    push_matched(alloc, &mut said, "doesn't match", &landmark.lacks, " or ")?;
     let gap = landmark.gap;
     if gap > 1 {
         let far = match is_below {
@@ -144,20 +144,21 @@ fn said_of(alloc: Global, landmark: &Landmark, is_below: bool) -> Result<Vec<Str
     } else {
         "has no line above it that matches"
     };
-    push_matched(alloc, &mut said, none, &landmark.none)?;
+    push_matched(alloc, &mut said, none, &landmark.none, " or ")?;
     Ok(said)
 }
 
-/// Puts in what is said of the patterns of a set; nothing where it has none.
+/// Puts in what is said of the patterns of a set, with this word between them; nothing where it has none.
 fn push_matched(
     alloc: Global,
     said: &mut Vec<String>,
     verb: &str,
     patterns: &Texts,
+    joined: &str,
 ) -> Result<(), AllocError> {
     let mut text = String::from_str(alloc, verb)?;
     for (index, pattern) in patterns.members().iter().enumerate() {
-        text.push_str(if index == 0 { " " } else { " and " })?;
+        text.push_str(if index == 0 { " " } else { joined })?;
         text.push_str(quoted(alloc, pattern.as_slice())?.as_str())?;
     }
     if !patterns.members().is_empty() {

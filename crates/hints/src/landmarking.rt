@@ -5,12 +5,14 @@ ghost use Rattle.ed_syntax.specs.PublicScript.{script_value};
 ghost use Rattle.ed_syntax.specs.reading.Reading.{script_of};
 ghost use Rattle.ed_rules.specs.LineBounds.{most_lines, IsAtMost};
 ghost use Rattle.hints.specs.Passing.{IsAllowed, IsVouched, chains_in};
+ghost use Rattle.hints.specs.Nowhere.{IsNowhere};
 ghost use Rattle.hints.specs.Widest.{addable, fullest, IsWidest};
 ghost use Rattle.hints.specs.Landmarks.{with_landmarks, marked_by, IsEachNeeded, IsLandmarked};
 
 use crate::given::Given;
 use crate::given_landmarks::{chains_in, marked_by, with_landmarks};
 use crate::narrowing::is_vouched_beside;
+use crate::nowhere::is_nowhere;
 use crate::passing::is_vouched;
 use crate::searched::addable;
 use crate::trying::found_landmarks;
@@ -87,7 +89,8 @@ fn widest_marked(
     Ok(Some(widest_of(alloc, script, &marked, min, patterns.members())?))
 }
 
-/// The widest start of what is given and those of these chains that are needed; none where that shows to be none.
+/// The widest start of what is given and those of these chains that are needed; none where that shows to be none, or it is seen that no file has
+/// its landmarks.
 #[tactic(auto, using(crate::proofs::ByLandmarks::landmarked_by))]
 fn least_landmarks(
     alloc: Global,
@@ -103,6 +106,7 @@ fn least_landmarks(
     requires high { IfSome given.now.max (λ most. most ≤ most_lines) }
     requires patterns { patterns.now ≡ addable (script_value script.now) given.now.max }
     ensures landmarked { IfOk result (λ found. IfSome found (IsLandmarked (script_value script.now) given.now)) }
+    ensures somewhere { IfOk result (λ found. IfSome found (λ start. ¬ IsNowhere start)) }
 {
     let mut left = added;
     'fewer: loop {
@@ -110,6 +114,9 @@ fn least_landmarks(
             return Ok(None);
         };
         let Some(fewer) = fewer_chains(alloc, script, given, &start, &left)? else {
+            if is_nowhere(alloc, &start)? {
+                return Ok(None);
+            }
             return Ok(Some(start));
         };
         left = fewer;
@@ -128,6 +135,7 @@ pub(crate) fn landmark_start_within(
     requires low { IfSome given.now.min (λ min. min ≤ most_lines) }
     requires high { IfSome given.now.max (λ most. most ≤ most_lines) }
     ensures landmarked { IfOk result (λ found. IfSome found (IsLandmarked (script_of script.now) given.now)) }
+    ensures somewhere { IfOk result (λ found. IfSome found (λ start. ¬ IsNowhere start)) }
     ensures only { IfOk result (λ found. IsSome found → ¬ IsVouched (script_of script.now) (fullest (script_of script.now) given.now)) }
 {
     let read = read_script(alloc, script)?;
@@ -148,6 +156,7 @@ pub(crate) fn landmark_start_within(
 /// are known to match.
 /// What else isn't given is found as `widest_start` finds it.
 ///
+/// No start is found of which it is seen that no file has its landmarks; where that isn't seen, there may be no file all the same.
 /// Where none is found there may still be one. Nothing is looked for where the script has no search and no `s`. The script is analysed
 /// some 200 times at most, up to its first need that fails, beside what `widest_start` says of itself.
 pub fn landmark_start(
@@ -159,6 +168,9 @@ pub fn landmark_start(
     requires low { IfSome given.now.min (λ min. min ≤ most_lines) }
     requires high { IfSome given.now.max (λ most. most ≤ most_lines) }
     ensures landmarked { IfOk result (λ found. IfSome found (IsLandmarked (script_of script.now) given.now)) }
+
+    // It isn't seen that no file has its landmarks.
+    ensures somewhere { IfOk result (λ found. IfSome found (λ start. ¬ IsNowhere start)) }
 
     // It is found only where the script isn't vouched for without.
     ensures only { IfOk result (λ found. IsSome found → ¬ IsVouched (script_of script.now) (fullest (script_of script.now) given.now)) }

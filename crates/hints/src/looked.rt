@@ -169,6 +169,10 @@ fn distances_of(alloc: Global, command: &Command) -> Result<Vec<i128>, AllocErro
     };
     push_distance(second, current, &mut found)?;
     push_distance(target, current, &mut found)?;
+    if let Verb::Move(_) = &command.verb {
+        // Below the lines that are moved there has to be another one, unless they go up.
+        found.push(1)?;
+    }
     match (&command.addresses, command.verb.takes().default) {
         (Addresses::Without, DefaultAddresses::Next | DefaultAddresses::CurrentAndNext) => {
             found.push(1)?;

@@ -8,8 +8,8 @@ use crate::sought::{count_of_found, count_of_searches};
 use crate::words::quoted;
 use cert_check::Place;
 use ed_base::{Fault, Letter};
-use ed_rules::KeptState;
-use ed_syntax::{Address, Base, Command, Script, Verb, read_script};
+use ed_rules::{KeptState, is_witnessed};
+use ed_syntax::{Address, Base, Command, Pattern, Script, Verb, Which, read_script};
 use std::alloc::{AllocError, Global};
 
 /// A need that fails at a place of a script by a fault, and what is known there.
@@ -38,23 +38,66 @@ fn patterns_before(script: &Script, place: Place) -> usize {
     }
 }
 
+/// What is said of a pattern that no line need match.
+fn any_line(alloc: Global) -> Result<String, AllocError> {
+    String::from_str(alloc, "no line need match")
+}
+
+/// Whether some line is known to match a pattern.
+fn is_matched(state: &KeptState, pattern: &Pattern) -> bool {
+    let text = pattern.text();
+    state.matches().has.has(text) || (state.follows() && is_witnessed(state.facts(), text))
+}
+
+/// What is said of a command's own pattern that the lines it takes need not match, or not as often as it wants. That no line at all need
+/// match it isn't said where one is known to.
+fn unmet_by(alloc: Global, state: &KeptState, command: &Command) -> Result<String, AllocError> {
+    match &command.verb {
+        Verb::Substitute {
+            which: Which::Nth(number),
+            ..
+        } if number.before() > 0 => {
+            let count = u64::from(number.before()).saturating_add(1);
+            Ok(format!(in alloc; "no line need have {count} matches of")?)
+        }
+        Verb::Substitute {
+            pattern: Some(pattern),
+            ..
+        } if is_matched(state, pattern) => {
+            String::from_str(alloc, "none of the lines that it takes need match")
+        }
+        _ => any_line(alloc),
+    }
+}
+
 /// The pattern that no line need match, where the line at the place has one: that of the first search that need not find a line, or the
-/// one after all searches.
+/// one after all searches, of which there may have to be several matches on a line.
 fn match_text(
     failed: &Failed<'_>,
     script: &Script,
     line: &[u8],
 ) -> Result<Option<String>, AllocError> {
     let alloc = failed.alloc;
-    let found = match (failed.state, command_of(script, failed.place)) {
-        (Some(state), Some(command)) => count_of_found(alloc, command, state)?,
-        _ => 0,
+    let (found, unmet) = match (failed.state, command_of(script, failed.place)) {
+        (Some(state), Some(command)) => {
+            let found = count_of_found(alloc, command, state)?;
+            let is_own = found == count_of_searches(command);
+            (
+                found,
+                if is_own {
+                    unmet_by(alloc, state, command)?
+                } else {
+                    any_line(alloc)?
+                },
+            )
+        }
+        _ => (0, any_line(alloc)?),
     };
     let index = patterns_before(script, failed.place).saturating_add(found);
     match patterns_of(alloc, line)?.as_slice().get(index) {
         Some(pattern) if pattern.low < pattern.high => {
             let shown = quoted(alloc, between(line, pattern.low, pattern.high))?;
-            Ok(Some(format!(in alloc; "no line need match {shown}")?))
+            Ok(Some(format!(in alloc; "{} {}", unmet.as_str(), shown.as_str())?))
         }
         _ => Ok(None),
     }
@@ -97,7 +140,7 @@ fn command_text(
     why: Fault,
 ) -> Result<Option<String>, AllocError> {
     let text = match why {
-        Fault::Address => return address_text(alloc, &state.zone(), command),
+        Fault::Address => return address_text(alloc, state, command),
         Fault::Mark => match unsure_letter(state, command) {
             Some(letter) => {
                 let letter = char::from(letter.byte());

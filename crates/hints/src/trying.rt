@@ -121,7 +121,7 @@ fn go_on(trial: &mut Trial<'_>, way: &Way, ways: &mut Vec<Way>) -> Result<Step, 
     };
     let place = way.failure.place;
     for added in proposals(trial.alloc, trial.script, place, given, &way.added)? {
-        if !has_room(added.as_slice(), trial.given.max) {
+        if !has_room(trial.alloc, trial.given, &added)? {
             continue;
         }
         match trial.try_with(&added)? {

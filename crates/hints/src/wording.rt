@@ -94,7 +94,12 @@ pub fn start_words(alloc: Global, start: &Start) -> Result<String, AllocError> {
     if let Some(chains) = &start.landmarks {
         let said = landmarks_text(alloc, chains.as_slice())?;
         if !said.is_empty() {
-            words.push_str(" in which ")?;
+            // After lines that match patterns it would be those lines in which another is.
+            words.push_str(if patterns.is_empty() {
+                " in which "
+            } else {
+                ", and in which "
+            })?;
             words.push_str(said.as_str())?;
         }
     }

@@ -2,7 +2,7 @@
 
 use analyser::Start;
 use ed_base::{Bytes, Texts};
-use hints::{Advice, Given, Hint, first_refusal, landmark_start};
+use hints::{Advice, Given, Hint, first_refusal, landmark_start, start_words};
 use landmarks::{ChainFault, LandmarkChain, LandmarkChains};
 use std::alloc::{AllocError, Global};
 use std::test::Fail;
@@ -34,7 +34,7 @@ macro_rules! found {
 }
 
 #[rattlefmt::skip]
-static ROWS: [Row; 39] = [
+static ROWS: [Row; 43] = [
     // What an `s` replaces has to be in the line that is searched for. The first search begins at the last line, and so at the first one that
     // matches; backwards it is another one, unless it is the only one.
     Row { script: b"/^Port/s/22/2222/\nw\nq\n", given: None, found: found!(0, None, &[b"/^Port/ & /22/"]) },
@@ -73,6 +73,12 @@ static ROWS: [Row; 39] = [
     Row { script: b"//d\nQ\n", given: None, found: None },
     Row { script: b"$d\nzz\n", given: None, found: None },
     Row { script: b"", given: None, found: None },
+    // The first line that each line matches is line 1, and no line comes before it.
+    Row { script: b"/^/-1p\nQ\n", given: None, found: None },
+    Row { script: b"/x*/-1,/x*/p\nQ\n", given: None, found: None },
+    // Where no line above line 5 matches, line 2 doesn't; above line 2 there is line 1 alone.
+    Row { script: b"2s/B/x/\nQ\n", given: Some(&[b"no /B/ 5"]), found: None },
+    Row { script: b"2s/B/x/\nQ\n", given: Some(&[b"no /B/ 2"]), found: found!(0, None, &[b"no /B/ 2", b"2 & /B/"]) },
     // What a line matches stays known while others are changed, and after a `g` whose list leaves them; but then any line may be current, and
     // the search finds the line that was known if it is the only one.
     Row { script: b"/^Port/\ns/22/2222/\nw\nq\n", given: None, found: found!(0, None, &[b"/^Port/ & /22/"]) },
@@ -241,7 +247,7 @@ struct Hinted {
 }
 
 #[rattlefmt::skip]
-static HINTED: [Hinted; 14] = [
+static HINTED: [Hinted; 16] = [
     Hinted { script: b"/^Port/s/22/2222/\nw\nq\n", text: Some("vouch with --at '/^Port/ & /22/' (the first line that matches `^Port` matches `22`), which run then tests") },
     Hinted { script: b"?^Port?s/22/2222/\nw\nq\n", text: Some("vouch with --at 'only /^Port/ & /22/' (the only line that matches `^Port` matches `22`), which run then tests") },
     Hinted { script: b"/BEGIN/;/END/d\nQ\n", text: Some("vouch with --at '/BEGIN/; /END/' (a line matches `BEGIN`, and a line below it matches `END`), which run then tests") },
@@ -250,6 +256,9 @@ static HINTED: [Hinted; 14] = [
     Hinted { script: b"/A/;+3d\nQ\n", text: Some("vouch with --at '/A/ tail 3' (a line matches `A`, with at least 3 lines after it), which run then tests") },
     Hinted { script: b"/A/-2,/A/+1d\nQ\n", text: Some("vouch with --at '/A/ gap 3 tail 1' (the first line that matches `A` is line 3 or later, with at least 1 line after it), which run then tests") },
     Hinted { script: b"1s/python2/python3/\nw\nq\n", text: Some("vouch with --at '1 & /python2/' (line 1 matches `python2`), which run then tests") },
+    // A line isn't moved below itself.
+    Hinted { script: b"/A/m$\nw\nq\n", text: Some("vouch with --at '/A/ tail 1' (a line matches `A`, with at least 1 line after it), which run then tests") },
+    Hinted { script: b"/^/-1p\nQ\n", text: None },
     // A word is shown as a shell reads it, and all of it.
     Hinted { script: b"/it's/s,a/b,c,\nw\nq\n", text: Some("vouch with --at '/it'\\''s/ & /a\\/b/' (the first line that matches `it's` matches `a/b`), which run then tests") },
     Hinted { script: b"/0123456789012345678901234567890123456789012345678901234567890123456789/s/0123456789012345678901234567890123456789 0/1/\nw\nq\n", text: Some("vouch with --at '/0123456789012345678901234567890123456789012345678901234567890123456789/ & /0123456789012345678901234567890123456789 0/' (the first line that matches `0123456789012345678901234567890123456789012345678901234567890123456789` matches `0123456789012345678901234567890123456789 0`), which run then tests") },
@@ -298,6 +307,52 @@ fn landmarks_are_hinted(rt: HostRuntime) -> Result<(), Fail> {
             "row {index}: {:?}",
             row.script
         );
+    }
+    Ok(())
+}
+
+/// The patterns and the chains of a start of any number of lines, and the words for it.
+#[derive(Drop)]
+struct Worded {
+    has: &'static [&'static [u8]],
+    chains: &'static [&'static [u8]],
+    words: &'static str,
+}
+
+#[rattlefmt::skip]
+static WORDED: [Worded; 6] = [
+    Worded { has: &[], chains: &[b"/A/ & /B/ & /C/"], words: "any conf in which the first line that matches `A` matches `B` and `C`" },
+    // Of several patterns that aren't matched none is.
+    Worded { has: &[], chains: &[b"3 & not /B/ & not /C/"], words: "any conf in which line 3 doesn't match `B` or `C`" },
+    Worded { has: &[], chains: &[b"no /a/ no /b/ 3"], words: "any conf in which line 3 has no line above it that matches `a` or `b`" },
+    Worded { has: &[], chains: &[b"/A/; no /a/ no /b/ /B/ & not /C/"],
+        words: "any conf in which a line matches `A`, and the first line below it that matches `B` doesn't match `C` and has no line between that matches `a` or `b`" },
+    // It is the file that has landmarks, and not a line that matches.
+    Worded { has: &[b"A"], chains: &[b"/A/"], words: "any conf with a line that matches `A`, and in which a line matches `A`" },
+    Worded { has: &[b"A", b"B"], chains: &[b"1 & /A/"], words: "any conf with lines that match `A` and `B`, and in which line 1 matches `A`" },
+];
+
+/// A file conf of any number of lines with these patterns and chains.
+fn worded_start(alloc: Global, row: &Worded) -> Result<Start, Unread> {
+    let mut has = Texts::none(alloc);
+    for pattern in row.has {
+        has.add(pattern)?;
+    }
+    Ok(Start {
+        path: Some(Bytes::from_slice(alloc, b"conf")?),
+        min: 0,
+        max: None,
+        has: Some(has),
+        landmarks: Some(chains_of(alloc, row.chains)?),
+    })
+}
+
+#[test]
+fn starts_with_landmarks_are_told(rt: HostRuntime) -> Result<(), Fail> {
+    for row in &WORDED {
+        let start = worded_start(rt.alloc(), row)?;
+        let words = start_words(rt.alloc(), &start)?;
+        assert_eq!(rt; words.as_str(), row.words);
     }
     Ok(())
 }

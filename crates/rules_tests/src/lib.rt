@@ -34,6 +34,8 @@ mod lists;
 #[cfg(test)]
 mod matching;
 #[cfg(test)]
+mod offered;
+#[cfg(test)]
 mod plain;
 #[cfg(test)]
 mod rules;

@@ -73,7 +73,11 @@ fn reason_text(
         Misfit::Near(line) if before.is_empty() => {
             Ok(format!(in alloc; "line {line} comes before line {gap}")?)
         }
+        Misfit::Near(line) if gap == 1 => { Ok(format!(in alloc; "line {line} isn't{before}")?) }
         Misfit::Near(line) => { Ok(format!(in alloc; "line {line} isn't {gap} lines{before}")?) }
+        Misfit::Late(line) if tail == 1 => {
+            Ok(format!(in alloc; "no line comes after line {line}")?)
+        }
         Misfit::Late(line) => {
             Ok(format!(in alloc; "fewer than {tail} lines come after line {line}")?)
         }

@@ -92,7 +92,7 @@ fn wrong_text(
         ChainWrong::Number => wanted(alloc, "a number from 1 to 999999999", rest),
         ChainWrong::Key => wanted(alloc, "a /RE/", rest),
         ChainWrong::End => {
-            let mut wanted = wanted(alloc, "the end, ;, & or gap or tail", rest)?;
+            let mut wanted = wanted(alloc, next_part(rest), rest)?;
             wanted.push_str(meant(rest))?;
             Ok(wanted)
         }
@@ -120,12 +120,36 @@ fn wanted(alloc: Global, words: &str, rest: &[u8]) -> Result<String, AllocError>
     Ok(format!(in alloc; "wants {words} here: {rest}")?)
 }
 
-/// What may be meant by a sign that stands where none may.
+/// Whether a word stands in front of a text.
+fn begins_with(rest: &[u8], word: &[u8]) -> bool {
+    match rest.strip_prefix(word) {
+        Some([byte, ..]) => !byte.is_ascii_alphabetic(),
+        Some([]) => true,
+        None => false,
+    }
+}
+
+/// Whether a word of a distance stands in front of a text.
+fn begins_with_distance(rest: &[u8]) -> bool {
+    begins_with(rest, b"gap") || begins_with(rest, b"tail")
+}
+
+/// What may stand where a landmark has ended, or goes on. Where a distance stands, it comes too late, or a second time.
+fn next_part(rest: &[u8]) -> &'static str {
+    if begins_with_distance(rest) {
+        "the end, ; or &"
+    } else {
+        "the end, ;, & or gap or tail"
+    }
+}
+
+/// What may be meant by what stands where it may not.
 fn meant(rest: &[u8]) -> &'static str {
     match rest {
         [b'!', ..] => "; write only before a /RE/ that one line alone matches",
         [b'+', ..] => "; write gap and a number for lines further down",
         [b'-', ..] => "; write tail and a number for lines that come after it",
+        _ if begins_with_distance(rest) => "; gap comes before tail, and both once and before &",
         _ => "",
     }
 }

@@ -10,5 +10,5 @@ returns-clause-tried c =
     let within = rw c.in-Some.is at c.in_ok-min.ensures.within in
     tried-vouched c.args.start.now c.args.place _ c.args.script.now (with_min c.args.start.now c.in-Some.min)
     (keeps-bounds c.args.start.now (with_min c.args.start.now c.in-Some.min) refl refl refl (omega (arith, above)) (within-itself c.args.start.now.max))
-    (inl refl) (record { ordered = within.1; low = within.0; high = c.requires.high }) (rw c.in-Some.is at c.in_ok-min.ensures.vouched) c.in_ok-from_slice.ensures.value
+    (inl refl) (λ nowhere. nowhere) (record { ordered = within.1; low = within.0; high = c.requires.high }) (rw c.in-Some.is at c.in_ok-min.ensures.vouched) c.in_ok-from_slice.ensures.value
     c.in_ok-with_bounds.ensures.value c.unchanged_at.ensures.unchanged

@@ -8,5 +8,5 @@ returns c = record {
   tried =
       tried-for c.args.script.now c.args.start.now c.in_ok-bounded.bounded c.args.place _
       (keeps-bounded c.args.start.now c.in_ok-bounded.bounded c.args.min c.args.start.now.max c.in_ok-bounded.ensures.value c.requires.above (within-itself c.args.start.now.max))
-      (ap (λ (s : Start). s.landmarks) c.in_ok-bounded.ensures.value) c.past_by.ensures.tried;
+      (ap (λ (s : Start). s.max) c.in_ok-bounded.ensures.value) (ap (λ (s : Start). s.landmarks) c.in_ok-bounded.ensures.value) c.past_by.ensures.tried;
 }

@@ -10,5 +10,5 @@ returns-clause-tried c =
     let found = rw c.in-Some.is at c.in_ok-opened.ensures.landmarked in
     let landmarked : IsLandmarked (script_of c.args.script.now) (given_of c.args.start.now) c.in-Some.opened =
     subst (λ (g : Given). IsLandmarked (script_of c.args.script.now) g c.in-Some.opened) c.in_ok-given.ensures.value found in
-    tried_marked c.args.start.now c.args.place _ c.args.script.now c.in-Some.opened landmarked c.in_ok-from_slice.ensures.value refl
+    tried_marked c.args.start.now c.args.place _ c.args.script.now c.in-Some.opened landmarked (rw c.in-Some.is at c.in_ok-opened.ensures.somewhere) c.in_ok-from_slice.ensures.value refl
     c.unchanged_at.ensures.unchanged

@@ -7,7 +7,7 @@ use Rattle.hints.proofs.stating.with_stated.Goals as goal
 pub returns-clause-tried : goal.returns-clause-tried
 returns-clause-tried c =
     tried-for c.args.script.now c.args.start.now c.in_ok-opened.opened c.args.place _ (keeps-patterns c.args.start.now c.in_ok-opened.opened c.args.patterns.now c.in_ok-opened.ensures.value)
-    (ap (λ (s : Start). s.landmarks) c.in_ok-opened.ensures.value) c.over_stated.ensures.tried
+    (ap (λ (s : Start). s.max) c.in_ok-opened.ensures.value) (ap (λ (s : Start). s.landmarks) c.in_ok-opened.ensures.value) c.over_stated.ensures.tried
 
 pub returns-clause-states : goal.returns-clause-states
 returns-clause-states c =

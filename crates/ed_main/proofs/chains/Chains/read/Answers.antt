@@ -1,6 +1,6 @@
 -- No file has the landmarks of the chains that the texts spell.
 use Rattle.std.proofs.Common.{map, subst}
-use Rattle.ed_calls.specs.Landmarked.{SomeFileHas}
+use Rattle.hints.specs.Nowhere.{SomeFileHas}
 use Rattle.ed_main.proofs.ChainLemmas.{none_had}
 use Rattle.ed_main.proofs.chains.Chains.read.Goals as goal
 

@@ -1,8 +1,8 @@
 -- The facts that were passed contradict nothing.
 use Rattle.std.proofs.Common.{◌≡◌, drop}
 use Rattle.std.specs.List.{list_any}
-use Rattle.ed_calls.specs.Landmarked.{contradicts}
-use Rattle.ed_calls.proofs.landmarked.contradict.Given as goal
+use Rattle.hints.specs.Nowhere.{contradicts}
+use Rattle.hints.proofs.nowhere.contradict.Given as goal
 
 abbrev pub invariant-loop-fact : goal.invariant-loop-fact
 invariant-loop-fact l =

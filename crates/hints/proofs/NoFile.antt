@@ -1,5 +1,5 @@
 -- Where the landmarks of chains are in a file, letters mark their lines, and what is known at the start holds of them.
-use Rattle.std.proofs.Common.{◌≡◌, ◌≢◌, ◌<◌, ◌≤◌, ◌+◌, ◌-◌, ◌∷◌, ◌++◌, [], ℕ, zero, suc, pos, negsuc, List, map, length, Option, Some, None, All, refl, sym, ap, subst, arith, ◌∙◌, ◌||◌, ◌⊎◌, inl, inr, Bool, true, false, true≢false}
+use Rattle.std.proofs.Common.{◌≡◌, ◌≢◌, ◌<◌, ◌≤◌, ◌+◌, ◌-◌, ◌∷◌, ◌++◌, [], ℕ, zero, suc, pos, negsuc, List, map, length, Option, Some, None, All, refl, sym, ap, subst, arith, ◌∙◌, ◌||◌, ◌⊎◌, inl, inr, Bool, true, false, true≢false, ◌↔◌, ℤ, ◌-ℤ◌, ◌≤ℤ◌, IsTrue}
 use Rattle.std.specs.List.{list_any}
 use Rattle.std.proofs.lemmas.Bool.{and_parts}
 use Rattle.std.proofs.lemmas.List.{append_assoc, length-append, length-map}
@@ -8,6 +8,7 @@ use Rattle.std.proofs.lemmas.Int.{ints}
 use Rattle.zones.specs.Name as name
 use Rattle.zones.specs.Name.{mark}
 use Rattle.zones.specs.Zone.{Bounds, Numbers, Holds}
+use Rattle.zones.specs.Known as zones
 use Rattle.ed_base.specs.Buffer.{Line, plain_line, texts}
 use Rattle.ed_syntax.specs.meaning.Erasure.{AreApart}
 use Rattle.ed_rules.specs.LineBounds.{IsAtMost}
@@ -21,7 +22,7 @@ use Rattle.landmarks.specs.Places.{AreAt}
 use Rattle.landmarks.specs.Starting.{started}
 use Rattle.landmarks.specs.Starts.{AreEachAt, AreNumbered, marks_at, numbers_at, AreMarked}
 use Rattle.cert_check.specs.checker.Beginning.{IsCounted, count_of, landmarks_of}
-use Rattle.ed_calls.specs.Landmarked.{SomeFileHas, IsWithin, contradicts, letters_down}
+use Rattle.hints.specs.Nowhere.{SomeFileHas, IsSeenNowhere, EndsWithin, letters_down, zone_within, known_there, contradicts, is_absurd}
 
 -- what is said of landmarks that are where they say
 pub record LandmarkLaws : Type 0 where
@@ -37,6 +38,11 @@ abbrev pub ClearIsTrue : Type 0
 ClearIsTrue = (zone : Bounds) (facts : Facts) (number : Numbers) (lines : List Line) (x y : Point) (pattern : List ℕ) →
     is_clear zone facts x y pattern ≡ true → x.name < 32 → y.name < 32 → Holds zone number → FactsHold facts number lines →
     IsClear (length lines) (matches_line pattern lines) (value_of number x) (value_of number y)
+
+-- what a zone says it knows of two numbers is true
+abbrev pub KnownIsTrue : Type 0
+KnownIsTrue = (zone : Bounds) (number : Numbers) (x y : ℕ) (c : ℤ) → zones.known zone x y c ≡ true → x < 32 → y < 32 → Holds zone number →
+    (number x -ℤ number y) ≤ℤ c
 
 -- what is known holds of no lines
 abbrev pub HoldsOfNone : (zone : Bounds) → Facts → Type 0
@@ -102,14 +108,14 @@ texts-plain (t ∷ text) = ap (λ l. t ∷ l) (texts-plain text)
 
 within : (number : Numbers) (lines : ℕ) (most : Option ℕ) → IsAtMost lines most → number name.zero ≡ pos 0 → number
     name.last_line ≡ pos lines →
-    IsWithin number most
+    EndsWithin number most
 within number lines None few none last = tt
 within number lines (Some most) few none last = rw (none, last) (omega (arith, ints))
 
 -- a file that has the landmarks is one of which holds all that is known where they are
 pub held : LandmarkLaws → (most : Option ℕ) (stated : List ChainValue) (count : ℕ) (zone : Bounds) → count ≡ count_of
     (landmarks_of stated) →
-    count ≤ 26 → ((number : Numbers) → IsWithin number most → Holds zone number) → SomeFileHas most stated →
+    count ≤ 26 → ((number : Numbers) → EndsWithin number most → Holds zone number) → SomeFileHas most stated →
     (number : Numbers) × ((lines : List Line) × KnownHolds (started (map mark (letters_down count)) (landmarks_of stated) zone) number
     lines)
 held laws most stated count zone counted low sound some =
@@ -137,7 +143,7 @@ held laws most stated count zone counted low sound some =
 -- where what is known holds of no lines, no file has the landmarks
 pub nowhere : LandmarkLaws → (most : Option ℕ) (stated : List ChainValue) (count : ℕ) (zone after : Bounds) (facts : Facts) (names
     : List ℕ) →
-    count ≡ count_of (landmarks_of stated) → count ≤ 26 → ((number : Numbers) → IsWithin number most → Holds zone number) →
+    count ≡ count_of (landmarks_of stated) → count ≤ 26 → ((number : Numbers) → EndsWithin number most → Holds zone number) →
     names ≡ map mark (letters_down count) → known_as after facts ≡ started names (landmarks_of stated) zone → HoldsOfNone after
     facts →
     SomeFileHas most stated → ⊥
@@ -174,10 +180,50 @@ some-contradicts clear zone facts number lines (f ∷ fs) holds all own is =
       | inr more ↦ some-contradicts clear zone facts number lines fs holds all (All-tail (LineFactHolds number lines) f fs own) more
     ]
 
-pub contradicted : ClearIsTrue → (zone : Bounds) (facts : Facts) → list_any (contradicts zone facts) facts.lines ≡ true →
+contradicted : ClearIsTrue → (zone : Bounds) (facts : Facts) → list_any (contradicts zone facts) facts.lines ≡ true →
     HoldsOfNone zone facts
 contradicted clear zone facts is number lines known =
     some-contradicts clear zone facts number lines facts.lines known.zone known.facts known.facts.of_lines is
+
+not-below : (n : ℤ) → (n -ℤ n) ≤ℤ negsuc 0 → ⊥
+not-below n less = omega (arith, ints, less)
+
+-- what can't be holds of no lines
+pub absurd_is_none : ClearIsTrue → KnownIsTrue → (zone : Bounds) (facts : Facts) → is_absurd (known_as zone facts) ≡ true →
+    HoldsOfNone zone facts
+absurd_is_none clear true_bounds zone facts is =
+    elim (either (zones.known zone name.zero name.zero (negsuc 0)) (list_any (contradicts zone facts) facts.lines) is) [
+      | inl empty ↦ λ number lines known.
+          not-below (number name.zero) (true_bounds zone number name.zero name.zero (negsuc 0) empty (omega arith) (omega arith) known.zone)
+      | inr some ↦ contradicted clear zone facts some
+    ]
+
+-- WHAT IS SEEN
+
+-- what is known as is said is known there, and so the test decides what is seen
+pub seen_exactly : (most : Option ℕ) (stated : List ChainValue) (count : ℕ) (zone after : Bounds) (facts : Facts) (names : List ℕ)
+    (told : Bool) → count ≡ count_of (landmarks_of stated) → count ≤ 26 → zone ≡ zone_within most → names ≡ map mark (letters_down count) →
+    known_as after facts ≡ started names (landmarks_of stated) zone → told ≡ is_absurd (known_as after facts) →
+    IsTrue told ↔ IsSeenNowhere most stated
+seen_exactly most stated count zone after facts names told counted low bounded named known is =
+    let there : known_as after facts ≡ known_there most stated =
+    known ∙ ap (λ (ns : List ℕ). started ns (landmarks_of stated) zone) named
+    ∙ ap (λ (n : ℕ). started (map mark (letters_down n)) (landmarks_of stated) zone) counted
+    ∙ ap (λ (z : Bounds). started (map mark (letters_down (count_of (landmarks_of stated)))) (landmarks_of stated) z) bounded in
+    let same : told ≡ is_absurd (known_there most stated) = is ∙ ap is_absurd there in (
+      λ yes. record { few = subst (λ (n : ℕ). n ≤ 26) counted low; absurd = subst IsTrue same yes },
+      λ seen. subst IsTrue (sym same) seen.absurd,
+    )
+
+not-seen : (most : Option ℕ) (stated : List ChainValue) (number : ℕ) → IsCounted number (count_of (landmarks_of stated)) → 26 < number →
+    IsSeenNowhere most stated → ⊥
+not-seen most stated number (inl same) many seen = let few = seen.few in omega (arith, same, few, many)
+not-seen most stated number (inr more) many seen = let few = seen.few in let least = more.0 in let less = more.1 in omega (arith, least, less, few)
+
+-- of more landmarks than letters nothing is seen
+pub too_many_seen : (most : Option ℕ) (stated : List ChainValue) (number : ℕ) → IsCounted number (count_of (landmarks_of stated)) → 26 < number →
+    IsTrue false ↔ IsSeenNowhere most stated
+too_many_seen most stated number counted many = (λ yes. absurd (true≢false (sym yes)), λ seen. absurd (not-seen most stated number counted many seen))
 
 -- a count that didn't stop at the greatest number is that of the landmarks
 pub counted : (number count : ℕ) → IsCounted number count → number ≤ 26 → number ≡ count

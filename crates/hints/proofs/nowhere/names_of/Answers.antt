@@ -1,8 +1,8 @@
 use Rattle.std.proofs.Common.{◌-◌, arith, map}
 use Rattle.zones.specs.Name.{mark}
-use Rattle.ed_calls.specs.Landmarked.{letters_down}
-use Rattle.ed_calls.proofs.Nowhere.{name_taken}
-use Rattle.ed_calls.proofs.landmarked.names_of.Goals as goal
+use Rattle.hints.specs.Nowhere.{letters_down}
+use Rattle.hints.proofs.NoFile.{name_taken}
+use Rattle.hints.proofs.nowhere.names_of.Goals as goal
 
 pub loop-below-preserved : goal.loop-below-preserved
 loop-below-preserved c =

@@ -1,8 +1,8 @@
 -- The letters that are left give the other names.
 use Rattle.std.proofs.Common.{◌≡◌, ◌≤◌, ◌++◌, map}
 use Rattle.zones.specs.Name.{mark}
-use Rattle.ed_calls.specs.Landmarked.{letters_down}
-use Rattle.ed_calls.proofs.landmarked.names_of.Given as goal
+use Rattle.hints.specs.Nowhere.{letters_down}
+use Rattle.hints.proofs.nowhere.names_of.Given as goal
 
 abbrev pub invariant-loop-below : goal.invariant-loop-below
 invariant-loop-below l = record {
