@@ -65,7 +65,8 @@ impl State {
         }
     }
 
-    fn replace_marks(&mut self, before: &Zone, count: usize, marks: &Marks)
+    /// Each sure mark, by the zone before the first of them is moved.
+    fn replace_sure_marks(&mut self, before: &Zone, count: usize, marks: &Marks)
         ensures exact { self.new ≡ for_each_sure (mark_replaced before.now count) marks.now 26 self.old }
     {
         for place in 0..Letter::COUNT {
@@ -76,15 +77,26 @@ impl State {
         }
     }
 
+    /// Where no letter is sure there is nothing to be told apart, and the zone isn't copied.
+    fn replace_marks(&mut self, count: usize)
+        ensures exact { self.new ≡ for_each_sure (mark_replaced self.old.zone count) self.old.marks 26 self.old }
+    {
+        if self.marks.are_none() {
+            return;
+        }
+        let before = self.zone;
+        let marks = self.marks;
+        self.replace_sure_marks(&before, count, &marks);
+    }
+
     /// The addressed lines give way to `count` lines.
     #[tactic(auto, unfolding(crate::specs::Pieces::replaced, crate::specs::Pieces::left_over))]
     pub(crate) fn replace(&mut self, count: usize)
         ensures exact { self.new ≡ replaced count self.old }
     {
-        let before = self.zone;
-        let marks = self.marks;
-        self.replace_marks(&before, count, &marks);
-        set_left_over(&mut self.zone, Distances::of(&before));
+        let distances = Distances::of(&self.zone);
+        self.replace_marks(count);
+        set_left_over(&mut self.zone, distances);
         set_current_replaced(&mut self.zone, count);
         self.zone
             .set_wide(Name::LAST_LINE, Name::TARGET_ADDRESS, count as i128);

@@ -67,6 +67,13 @@ impl Marks {
         Marks { sure }
     }
 
+    /// Whether no letter is sure.
+    pub(crate) fn are_none(&self) -> bool
+        ensures exact { IsTrue result ↔ AreAmong self.now no_marks }
+    {
+        self.are_among(&Marks::none())
+    }
+
     /// Whether each letter that is sure here is sure in the other.
     pub fn are_among(&self, many: &Marks) -> bool
         ensures exact { IsTrue result ↔ AreAmong self.now many.now }

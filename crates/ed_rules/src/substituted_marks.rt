@@ -3,7 +3,7 @@
 ghost use Rattle.std.specs.Prelude.{◌≡◌};
 ghost use Rattle.std.specs.List.{list_all};
 ghost use Rattle.ed_rules.specs.Marks.{for_each_sure};
-ghost use Rattle.ed_rules.specs.Substituting.{is_told_not_to_match, is_left_alone, mark_kept, mark_substituted};
+ghost use Rattle.ed_rules.specs.Substituting.{is_told_not_to_match, is_left_alone, mark_kept, mark_substituted, marks_substituted};
 
 use crate::line_facts::LineFacts;
 use crate::marks::Marks;
@@ -71,7 +71,8 @@ impl State {
         }
     }
 
-    pub(crate) fn substitute_marks(&mut self, before: &Zone, splits: bool, marks: &Marks)
+    /// Each sure mark, by the zone before the first of them is moved.
+    fn substitute_sure_marks(&mut self, before: &Zone, splits: bool, marks: &Marks)
         ensures exact { self.new ≡ for_each_sure (mark_substituted before.now splits) marks.now 26 self.old }
     {
         for place in 0..Letter::COUNT {
@@ -80,5 +81,17 @@ impl State {
                 self.substitute_mark(before, splits, letter);
             }
         }
+    }
+
+    /// Where no letter is sure there is nothing to be told apart, and the zone isn't copied.
+    pub(crate) fn substitute_marks(&mut self, splits: bool)
+        ensures exact { self.new ≡ marks_substituted splits self.old }
+    {
+        if self.marks.are_none() {
+            return;
+        }
+        let before = self.zone;
+        let marks = self.marks;
+        self.substitute_sure_marks(&before, splits, &marks);
     }
 }

@@ -2,10 +2,11 @@
 
 ghost use Rattle.std.specs.Prelude.{◌≡◌, pos, None, Some, IfOk, OnOk};
 ghost use Rattle.std.specs.List.{list_all, list_any};
-ghost use Rattle.zones.specs.Name.{last_line};
-ghost use Rattle.zones.specs.Steps.{after_shift};
+ghost use Rattle.zones.specs.Name.{last_line, current_line, second_address};
+ghost use Rattle.zones.specs.Steps.{after_shift, after_forget, after_guard};
+ghost use Rattle.ed_rules.specs.Pieces.{guarded_by};
 ghost use Rattle.ed_rules.specs.StandsFor.{ends_line};
-ghost use Rattle.ed_rules.specs.Substituting.{kind_of, replacement_used, pattern_used, takes_first, is_known_line, matches_each, is_sure_to_match, takes_all, is_match_among, is_matched_among, matches_some, is_sure_of_some, current_split, current_within, surely_substituted, partly_substituted, substituted};
+ghost use Rattle.ed_rules.specs.Substituting.{kind_of, replacement_used, pattern_used, takes_first, is_known_line, matches_each, is_sure_to_match, takes_all, is_match_among, is_matched_among, matches_some, is_sure_of_some, current_within, surely_substituted, partly_substituted, substituted};
 ghost use Rattle.ed_rules.specs.Reaching.{Reaches};
 
 use crate::addresses::choice_matches_always;
@@ -71,12 +72,15 @@ fn allow_more_lines(zone: &mut Zone)
 }
 
 /// Lines may be split, and each is substituted in: the current line is as far from the last one as the second address was.
-#[tactic(auto, unfolding(crate::specs::Substituting::current_split))]
-fn set_current_split(zone: &mut Zone, before: &Zone)
-    ensures exact { zone.new ≡ current_split before.now zone.old }
+/// So the second address less the last line was at most `below`, and the last line less the second address at most `above`.
+fn set_current_split(zone: &mut Zone, below: Option<i64>, above: Option<i64>)
+    ensures exact { zone.new ≡
+        guarded_by
+        (guarded_by
+        (after_guard (after_forget (after_shift zone.old last_line (Some (pos 0)) None) current_line) second_address current_line (pos 0))
+        current_line last_line below)
+        last_line current_line above }
 {
-    let below = before.bound(Name::SECOND_ADDRESS, Name::LAST_LINE);
-    let above = before.bound(Name::LAST_LINE, Name::SECOND_ADDRESS);
     allow_more_lines(zone);
     zone.forget(Name::CURRENT_LINE);
     zone.guard(Name::SECOND_ADDRESS, Name::CURRENT_LINE, 0);
@@ -249,16 +253,16 @@ impl State {
     }
 
     /// A substitution in each of the lines.
-    #[tactic(auto, unfolding(crate::specs::Substituting::surely_substituted))]
+    #[tactic(auto, unfolding(crate::specs::Substituting::surely_substituted, crate::specs::Substituting::current_split))]
     fn substitute_surely(&mut self, listed: bool, start: &State) -> Result<(), AllocError>
         ensures exact { OnOk result (self.new ≡ surely_substituted listed start.now self.old) }
     {
         let splits = self.replacements.split;
-        let old = self.zone;
-        let marks = self.marks;
-        self.substitute_marks(&old, splits, &marks);
+        let below = self.zone.bound(Name::SECOND_ADDRESS, Name::LAST_LINE);
+        let above = self.zone.bound(Name::LAST_LINE, Name::SECOND_ADDRESS);
+        self.substitute_marks(splits);
         if splits {
-            set_current_split(&mut self.zone, &old);
+            set_current_split(&mut self.zone, below, above);
         } else {
             self.zone.set(Name::CURRENT_LINE, Name::SECOND_ADDRESS, 0);
         }
@@ -271,9 +275,7 @@ impl State {
         ensures exact { OnOk result (self.new ≡ partly_substituted listed before.now self.old) }
     {
         let split = self.replacements.split;
-        let old = self.zone;
-        let marks = self.marks;
-        self.substitute_marks(&old, split, &marks);
+        self.substitute_marks(split);
         set_current_within(&mut self.zone, split);
         self.modify(listed, before)
     }
