@@ -1,6 +1,6 @@
 //! Files on a disk, whose calls are logged.
 ghost use Rattle.std.specs.Prelude.{◌≡◌, ◌≢◌, ◌≤◌, ◌⊎◌, [], None, length, is_some, IfOk, OnOk};
-ghost use Rattle.std.specs.Io.KnownBytes.{Appends};
+ghost use Rattle.std.specs.Io.KnownBytes.{Appends, Consumes};
 ghost use Rattle.ed_syntax.specs.declared.request.Answer.TheVariants as answer;
 ghost use Rattle.ed_session.specs.Drives.{ends_refused, is_refusal};
 ghost use Rattle.ed_session.specs.Seen.{log_seen};
@@ -140,12 +140,37 @@ fn read_answer<R: Files>(
     }
 }
 
+/// How many bytes of a file are asked for at a time.
+const PIECE: usize = 1 << 16;
+
+/// Room for the read that finds the end of a file.
+const END: usize = 64;
+
 fn read_file<R: Files>(alloc: Global, files: &R, path: &str) -> io::Result<Vec<u8>> {
     let mut file = OpenOptions::new().read(true).open(files, path)?;
-    let mut bytes = Vec::new(alloc);
-    // Room for all that the file says it has, so that nothing is moved while it is read.
-    bytes.reserve_exact(usize::try_from(file.metadata()?.len()).unwrap_or(0))?;
+    let size = usize::try_from(file.metadata()?.len()).unwrap_or(0);
+    let mut bytes = read_pieces(alloc, &mut file, size)?;
+    // What is left of a file that grew, or whose size isn't told, as that of a pipe.
     file.read_to_end(&mut bytes)?;
+    Ok(bytes)
+}
+
+/// So many bytes of a file, or fewer where it ends or a read is interrupted, with room for all, so that nothing is moved while it is read.
+/// A piece is read into a small room and copied from there, which takes less time than to make zeros of all the room first.
+fn read_pieces<F: Read>(alloc: Global, file: &mut F, size: usize) -> io::Result<Vec<u8>>
+    ensures read { IfOk result (λ bytes. Consumes (F.remaining file.old) (F.remaining file.new) bytes.items) }
+{
+    let mut bytes = Vec::new(alloc);
+    bytes.reserve_exact(size.saturating_add(END))?;
+    let mut room = vec![in alloc; 0; PIECE.min(size)]?;
+    'pieces: while bytes.len() < size {
+        match file.read(room.as_mut_slice()) {
+            Ok(0) => return Ok(bytes),
+            Ok(n) => bytes.extend_from_slice(&room[..n])?,
+            Err(error) if error.kind() == ErrorKind::Interrupted => return Ok(bytes),
+            Err(error) => return Err(error),
+        }
+    }
     Ok(bytes)
 }
 
