@@ -87,6 +87,13 @@ fn a_matches(alloc: Global) -> Result<LineFacts, AllocError> {
     Ok(facts)
 }
 
+/// The line `b` matches.
+fn b_matches(alloc: Global) -> Result<LineFacts, AllocError> {
+    let mut facts = LineFacts::none(alloc);
+    add_line(&mut facts, b(), true)?;
+    Ok(facts)
+}
+
 /// The line `a` matches, and no line before it.
 fn a_is_first(alloc: Global) -> Result<LineFacts, AllocError> {
     let mut facts = a_matches(alloc)?;
@@ -135,6 +142,17 @@ fn where_others_may_match_the_line_that_is_found_is_open(rt: HostRuntime) -> Res
     search_forward(rt.alloc(), &mut zone, &mut facts, FOUND, b"x")?;
     assert!(rt; !is_at(&zone, FOUND, a()));
     assert!(rt; is_before(&zone, ZERO, FOUND));
+    assert!(rt; is_told(&facts, &zone, FOUND));
+    Ok(())
+}
+
+#[test]
+fn the_last_line_may_match_too_where_a_stretch_ends_before_it(rt: HostRuntime) -> Result<(), Fail> {
+    let mut zone = lines();
+    let mut facts = a_is_first(rt.alloc())?;
+    add_clear(&mut facts, a(), Some(LAST))?;
+    search_forward(rt.alloc(), &mut zone, &mut facts, FOUND, b"x")?;
+    assert!(rt; !is_at(&zone, FOUND, a()));
     assert!(rt; is_told(&facts, &zone, FOUND));
     Ok(())
 }
@@ -254,6 +272,15 @@ fn a_join_keeps_what_both_sides_say(rt: HostRuntime) -> Result<(), Fail> {
 }
 
 #[test]
+fn a_join_keeps_no_fact_of_another_line(rt: HostRuntime) -> Result<(), Fail> {
+    let zone = lines();
+    let mut facts = a_matches(rt.alloc())?;
+    facts.keep_both(&zone, &b_matches(rt.alloc())?);
+    assert!(rt; facts.lines.is_empty());
+    Ok(())
+}
+
+#[test]
 fn facts_are_covered_by_those_that_say_each_of_them(rt: HostRuntime) -> Result<(), Fail> {
     let zone = lines();
     let first = a_is_first(rt.alloc())?;
@@ -261,5 +288,6 @@ fn facts_are_covered_by_those_that_say_each_of_them(rt: HostRuntime) -> Result<(
     assert!(rt; first.are_covered(&zone, &only_a(rt.alloc())?));
     assert!(rt; !first.are_covered(&zone, &a_matches(rt.alloc())?));
     assert!(rt; !first.are_covered(&zone, &LineFacts::none(rt.alloc())));
+    assert!(rt; !a_matches(rt.alloc())?.are_covered(&zone, &b_matches(rt.alloc())?));
     Ok(())
 }
