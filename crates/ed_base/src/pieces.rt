@@ -14,6 +14,11 @@ use std::rc::Rc;
 // A shorter part isn't worth a piece of its own: its bytes are copied.
 const SHORT: usize = 64;
 
+// So many bytes or more become a part of their own. To tell whether the last part could grow over them, all would be compared, as many
+// as a whole file has, and that would save a part's 24 bytes and a call of the system: nothing beside so many bytes. Fewer are better
+// joined: pieces of which two fit into 64 KiB are copied once more, to be written together.
+const LONG: usize = 1 << 16;
+
 /// Bytes in pieces, of which some are parts of blocks that others share. A contract sees the bytes, one after another.
 #[derive(Debug, Drop)]
 pub struct Pieces {
@@ -140,14 +145,14 @@ impl Pieces {
     }
 }
 
-/// Lets a last part grow over these bytes, if they follow it in its block.
+/// Lets a last part grow over these bytes, if they follow it in its block and aren't too many to be compared.
 fn grow_part(last: &mut Option<Part>, place: usize, bytes: &[u8]) -> bool
     ensures grown { IsTrue result → bytes_or_none last.new ≡ bytes_or_none last.old ++ bytes.now }
     ensures unchanged { result ≡ false → bytes_or_none last.new ≡ bytes_or_none last.old }
 {
     match last {
-        Some(part) => part.grow(place, bytes),
-        None => false,
+        Some(part) if bytes.len() < LONG => part.grow(place, bytes),
+        _ => false,
     }
 }
 
