@@ -92,6 +92,26 @@ impl Old {
     }
 }
 
+/// What undo finds becomes a buffer with these bounds, sure marks and facts, where it may be that it finds none yet. It has a function
+/// of its own since a function clears the room of its locals, here that of a whole zone, at each call.
+#[inline(never)]
+fn find_new_old(
+    found: &mut Option<Old>,
+    zone: &Zone,
+    marks: &Marks,
+    facts: &LineFacts,
+) -> Result<(), AllocError>
+    ensures value { OnOk result (found.new ≡ Some (record { zone = zone.now; marks = marks.now; facts = facts.now })) }
+{
+    let facts = facts.try_copy()?;
+    *found = Some(Old {
+        zone: *zone,
+        marks: *marks,
+        facts,
+    });
+    Ok(())
+}
+
 /// What undo finds becomes a buffer with these bounds, sure marks and facts, in place where it finds an earlier one already. After an
 /// `Err` it is some buffer.
 pub(crate) fn find_old(
@@ -104,15 +124,7 @@ pub(crate) fn find_old(
 {
     match found {
         Some(old) => old.copy_from(zone, marks, facts),
-        None => {
-            let facts = facts.try_copy()?;
-            *found = Some(Old {
-                zone: *zone,
-                marks: *marks,
-                facts,
-            });
-            Ok(())
-        }
+        None => find_new_old(found, zone, marks, facts),
     }
 }
 
