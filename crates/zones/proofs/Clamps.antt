@@ -113,3 +113,11 @@ unfolding after_guard guard_bound
 after_guard-clamp zone x y c h =
     zone_by-same _ _ (λ p q hp hq. tighten-clamp (bound zone p q) (bound zone p x) (bound zone y q) c
     (IsKept-bound zone p q h) (IsKept-bound zone p x h) (IsKept-bound zone y q h))
+
+-- of a kept bound and a way the lesser may be clipped, or the way alone before
+lesser-clip_number : (d way : ℤ) → lowest ≤ℤ d → d ≤ℤ highest → lesser_of (Some d) (clip way) ≡ clip_bound (lesser_of (Some d) (Some way))
+lesser-clip_number d way low high = grind (arith, ints)
+
+pub lesser-clip : (direct : Option ℤ) (way : ℤ) → IsKept direct → lesser_of direct (clip way) ≡ clip_bound (lesser_of direct (Some way))
+lesser-clip None way h = refl
+lesser-clip (Some d) way h = lesser-clip_number d way h.0 h.1

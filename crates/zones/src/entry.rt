@@ -1,7 +1,7 @@
 //! A bound in 8 bytes: half of what an `Option<i64>` takes, so that a zone takes half as well.
 
 ghost use Rattle.std.specs.Prelude.{◌≡◌, ◌↔◌, None, IsTrue};
-ghost use Rattle.zones.specs.Bound.{IsKept, greater_of, widen_bound, widen_diagonal, covers_bound};
+ghost use Rattle.zones.specs.Bound.{IsKept, lesser_of, greater_of, widen_bound, widen_diagonal, covers_bound};
 
 use std::fmt;
 use std::marker::Model;
@@ -71,6 +71,17 @@ impl Entry {
 }
 
 // Any is kept as the greatest number, so that which of two bounds is the weaker is read off the numbers alone.
+
+/// The stronger of two bounds.
+pub(crate) fn lesser(one: Entry, other: Entry) -> Entry
+    ensures value { result ≡ lesser_of one other }
+{
+    if other.number < one.number {
+        other
+    } else {
+        one
+    }
+}
 
 /// The weaker of two bounds.
 pub(crate) fn greater(one: Entry, other: Entry) -> Entry

@@ -1,10 +1,10 @@
-//! Arithmetic on single bounds. Sums are made in 128 bits, so none is too large, and then clipped.
+//! Arithmetic on single bounds. Sums are made in 128 bits where they could be too large, and then clipped.
 
-ghost use Rattle.std.specs.Prelude.{◌≡◌, ◌+ℤ◌, Some};
+ghost use Rattle.std.specs.Prelude.{◌≡◌, ◌+ℤ◌, ◌≤ℤ◌, pos, negsuc, Some};
 ghost use Rattle.zones.specs.Limits.{clamp, clamp_side};
-ghost use Rattle.zones.specs.Bound.{clip, clip_bound, sum_of, lesser_of, tighten, raise, lower};
+ghost use Rattle.zones.specs.Bound.{IsKept, clip, clip_bound, tighten, raise, lower};
 
-use crate::entry::Entry;
+use crate::entry::{Entry, lesser};
 
 /// The greatest number that a zone keeps, and with a minus sign the least.
 pub const LIMIT: i64 = 1_000_000_000_000_000;
@@ -48,15 +48,6 @@ pub(crate) fn clip(number: i128) -> Entry
     }
 }
 
-fn clip_wide(number: Option<i128>) -> Entry
-    ensures value { result ≡ clip_bound number }
-{
-    match number {
-        Some(number) => clip(number),
-        None => Entry::any(),
-    }
-}
-
 /// The bound as a zone keeps it.
 pub(crate) fn clip_bound(number: Option<i64>) -> Entry
     ensures value { result ≡ clip_bound number }
@@ -67,42 +58,29 @@ pub(crate) fn clip_bound(number: Option<i64>) -> Entry
     }
 }
 
-fn sum_of_three(to: i64, c: i64, from: i64) -> i128
+/// The sum of two bounds and of an offset that is clamped. It fits in 64 bits.
+fn sum_of_three(to: i64, c: i64, from: i64) -> i64
+    requires to_kept { IsKept (Some to) }
+    requires from_kept { IsKept (Some from) }
+    requires c_not_low { negsuc 3999999999999999 ≤ℤ c }
+    requires c_not_high { c ≤ℤ pos 4000000000000000 }
     ensures value { result ≡ to +ℤ c +ℤ from }
 {
-    i128::from(to) + i128::from(c) + i128::from(from)
+    to + c + from
 }
 
-fn way(to: Option<i64>, c: i64, from: Option<i64>) -> Option<i128>
-    ensures value { result ≡ sum_of (sum_of to (Some c)) from }
+/// The lesser of a direct bound and of that by a way of three parts, of which the middle one is clamped.
+pub(crate) fn tighten(direct: Entry, to: i64, c: i64, from: i64) -> Entry
+    requires to_kept { IsKept (Some to) }
+    requires from_kept { IsKept (Some from) }
+    requires c_not_low { negsuc 3999999999999999 ≤ℤ c }
+    requires c_not_high { c ≤ℤ pos 4000000000000000 }
+    ensures value { result ≡ tighten direct (Some to) c (Some from) }
 {
-    match (to, from) {
-        (Some(to), Some(from)) => Some(sum_of_three(to, c, from)),
-        _ => None,
-    }
-}
-
-fn lesser(direct: Option<i64>, other: Option<i128>) -> Option<i128>
-    ensures value { result ≡ lesser_of direct other }
-{
-    match (direct, other) {
-        (Some(direct), Some(other)) => {
-            if other < i128::from(direct) {
-                Some(other)
-            } else {
-                Some(i128::from(direct))
-            }
-        }
-        (Some(direct), None) => Some(i128::from(direct)),
-        (None, other) => other,
-    }
-}
-
-/// The lesser of a direct bound and of that by a way of three parts.
-pub(crate) fn tighten(direct: Entry, to: Option<i64>, c: i64, from: Option<i64>) -> Entry
-    ensures value { result ≡ tighten direct to c from }
-{
-    clip_wide(lesser(direct.get(), way(to, c, from)))
+    let way = sum_of_three(to, c, from);
+    // It is kept, and so isn't clipped once more.
+    let _kept = direct.get();
+    lesser(direct, clip(i128::from(way)))
 }
 
 /// The bound plus a number; any, where either is unbounded.

@@ -2,7 +2,7 @@
 //! would cost far more than the few bounds that most steps change. Of names from `most` on nothing
 //! is known, and a step on earlier ones leaves it so.
 
-ghost use Rattle.std.specs.Prelude.{◌≡◌, ◌≢◌, ℕ, ◌<◌, ◌≤◌, Some, None, length, get_or};
+ghost use Rattle.std.specs.Prelude.{◌≡◌, ◌≢◌, ℕ, ◌<◌, ◌≤◌, ◌≤ℤ◌, pos, negsuc, Some, None, length, get_or};
 ghost use Rattle.zones.specs.Bound.{IsKept, tighten, raise, lower};
 ghost use Rattle.zones.specs.Zone.{bound};
 ghost use Rattle.zones.specs.Steps.{any_bound, any_zone, after_guard, after_set, after_shift, after_forget, after_put};
@@ -11,7 +11,7 @@ ghost use Rattle.zones.specs.Reach.{AreUnknown};
 ghost use Rattle.zones.specs.RowWrites.{IsRowWritten};
 
 use crate::entry::Entry;
-use crate::number::{clip_bound, lower, raise, tighten};
+use crate::number::{clamped, clip_bound, lower, raise, tighten};
 use crate::reach::any_of;
 
 /// The bound of the pair (p, q) lies at `32 * p + q`.
@@ -96,6 +96,9 @@ fn write_cross(
 fn tighten_row(table: &mut Table, most: usize, p: usize, to: i64, c: i64, row: &Line)
     requires most_in_range { most ≤ 32 }
     requires p_in_range { p < 32 }
+    requires to_kept { IsKept (Some to) }
+    requires c_not_low { negsuc 3999999999999999 ≤ℤ c }
+    requires c_not_high { c ≤ℤ pos 4000000000000000 }
     requires kept { (q : ℕ) → q < 32 → IsKept (bound table.old p q) }
     requires row_ends { (q : ℕ) → most ≤ q → q < 32 → get_or row.now q None ≡ None }
     ensures size { length table.new ≡ 1024 }
@@ -108,23 +111,22 @@ fn tighten_row(table: &mut Table, most: usize, p: usize, to: i64, c: i64, row: &
         // Where the other row has no bound, no way leads to the pair.
         if let Some(from) = row[q].get() {
             let place = 32 * p + q;
-            table[place] = tighten(table[place], Some(to), c, Some(from));
+            table[place] = tighten(table[place], to, c, from);
         }
     }
 }
 
-/// The row of the name at `y`, which ends before `most`.
-fn row_of(table: &Table, most: usize, y: usize) -> Line
+/// Makes an empty row that of the name at `y`, which ends before `most`. A row as a result would be copied twice.
+fn read_row(row: &mut Line, table: &Table, most: usize, y: usize)
     requires most_in_range { most ≤ 32 }
     requires y_in_range { y < most }
     requires unknown { AreUnknown table.now most }
-    ensures each { (q : ℕ) → q < 32 → get_or result q None ≡ bound table.now y q }
+    requires empty { (q : ℕ) → q < 32 → get_or row.old q None ≡ None }
+    ensures each { (q : ℕ) → q < 32 → get_or row.new q None ≡ bound table.now y q }
 {
-    let mut row = [Entry::any(); 32];
     for q in 0..most {
         row[q] = table[32 * y + q];
     }
-    row
 }
 
 /// Adds that the difference of the names at `x` and `y` is at most `c`.
@@ -136,12 +138,15 @@ pub(crate) fn guard_table(table: &mut Table, most: usize, x: usize, y: usize, c:
     requires unknown { AreUnknown table.old most }
     ensures exact { table.new ≡ after_guard table.old x y c }
 {
-    let row = row_of(table, most, y);
+    let mut row = [Entry::any(); 32];
+    read_row(&mut row, table, most, y);
+    // No bound differs after a step by the clamped offset, with which each sum fits in 64 bits.
+    let near = clamped(i128::from(c));
     for p in 0..most {
         // Only the row itself is read here, and that of `y` as it was before the step. A row with no
         // bound up to `x` stays, since no way leads on.
         if let Some(to) = table[32 * p + x].get() {
-            tighten_row(table, most, p, to, c, &row);
+            tighten_row(table, most, p, to, near, &row);
         }
     }
 }

@@ -1,14 +1,14 @@
-use Rattle.std.proofs.Common.{◌≡◌, ◌*◌, ◌+◌, None, length-set, get_or-set_other, refl, arith, ◌∙◌}
-use Rattle.std.proofs.lemmas.List.{get_or_default, get_or-replicate}
+use Rattle.std.proofs.Common.{◌≡◌, ◌*◌, ◌+◌, None, length-set, get_or-set_other, arith, ◌∙◌}
+use Rattle.std.proofs.lemmas.List.{get_or_default}
 use Rattle.zones.specs.Zone.{bound}
 use Rattle.zones.proofs.Places.{each-set}
-use Rattle.zones.proofs.table.row_of.Goals as goal
+use Rattle.zones.proofs.table.read_row.Goals as goal
 
 pub loop-q-init : goal.loop-q-init
 loop-q-init c = record {
-  size = refl;
+  size = c.told-row;
   done = λ q h. absurd (omega (arith, h));
-  rest = λ q l h. get_or-replicate 32 q c.any-row.result None h ∙ c.any-row.ensures.value;
+  rest = λ q l h. c.requires.empty q h;
 }
 
 pub loop-q-preserved : goal.loop-q-preserved

@@ -1,6 +1,6 @@
 use Rattle.std.proofs.Common.{◌≡◌, ◌<◌, ◌≤◌, ℕ, get_or, length, None}
 use Rattle.zones.specs.Zone.{bound}
-use Rattle.zones.proofs.table.row_of.Given as goal
+use Rattle.zones.proofs.table.read_row.Given as goal
 
 abbrev pub invariant-loop-q : goal.invariant-loop-q
 invariant-loop-q l = record {
