@@ -7,4 +7,5 @@ pub mod Wanted
 -- what only serves clauses inside the crate
 pub mod Writing
 pub mod Reading
+pub mod SaidZones
 pub mod Pieces

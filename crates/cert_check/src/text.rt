@@ -12,6 +12,7 @@ pub(crate) mod lines;
 pub(crate) mod notes;
 pub(crate) mod readers;
 pub(crate) mod reading;
+pub(crate) mod said_zones;
 pub(crate) mod states;
 pub(crate) mod transcript;
 pub(crate) mod wanted;

@@ -3,12 +3,19 @@
 ghost use Rattle.std.specs.Prelude.{◌≡◌, ◌↔◌, [], Ok, Err, IsTrue, MatchOption, IfOk, IfErr};
 ghost use Rattle.ed_base.specs.Lines.{IsLine};
 ghost use Rattle.cert_check.specs.declared.text.fault.Unread.TheVariants.{Line, Size};
+ghost use Rattle.ed_rules.specs.Formed.{ZoneIsFormed};
+ghost use Rattle.cert_check.specs.text.Text.{zone_line};
+ghost use Rattle.cert_check.specs.text.Reading.{ReadsAs, all_marks};
 ghost use Rattle.cert_check.specs.text.Pieces.{IsNext};
 
 use crate::text::fault::Unread;
+use crate::text::said_zones::SaidZones;
 use crate::text::wanted::{LineKind, Wanted};
+use crate::text::zone_lines::zone_in;
 use memchr::memchr;
+use std::alloc::{AllocError, Global};
 use std::marker::Model;
+use zones::KeptZone;
 
 /// What may follow the state of a note: another note, what is known of its list, or the end.
 #[derive(Clone, Copy, PartialEq, Eq, Debug)]
@@ -24,6 +31,7 @@ pub(crate) struct Cursor<'a> {
     rest: &'a [u8],
     // How many lines were read.
     above: usize,
+    zones: SaidZones<'a>,
 }
 
 impl<'a> Model for Cursor<'a> {
@@ -45,6 +53,7 @@ impl<'a> Cursor<'a> {
         Cursor {
             rest: bytes,
             above: 0,
+            zones: SaidZones::none(),
         }
     }
 
@@ -72,6 +81,19 @@ impl<'a> Cursor<'a> {
         ensures none { IfErr result (λ unread. (unread ≡ Size) × IsLine self.old.bytes) }
     {
         self.next().ok_or(Unread::Size)
+    }
+
+    /// The zone of a line that was read, whatever letters it speaks of.
+    pub(crate) fn zone_in(
+        &mut self,
+        alloc: Global,
+        key: &[u8],
+        line: &'a [u8],
+    ) -> Result<Option<KeptZone>, AllocError>
+        ensures exact { IfOk result (λ zone. ReadsAs (zone_line key.now) (ZoneIsFormed all_marks) line.now zone) }
+        ensures same { self.new ≡ self.old }
+    {
+        zone_in(alloc, key, line, &mut self.zones)
     }
 
     /// What the last line was read as. One that was read as nothing isn't of the kind that is wanted there.

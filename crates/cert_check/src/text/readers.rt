@@ -16,7 +16,7 @@ use crate::text::lines::{
     undo_in, writes_in,
 };
 use crate::text::wanted::LineKind;
-use crate::text::zone_lines::{marks_in, zone_in};
+use crate::text::zone_lines::marks_in;
 use ed_base::Bytes;
 use ed_rules::{Changed, Choices, Marks, Replacements, Texts};
 use landmarks::LandmarkChain;
@@ -113,7 +113,8 @@ pub(crate) fn read_zone(
     ensures exact { Reads same (alone (zone_line (key kind))) (ZoneIsFormed all_marks) cursor.old cursor.new result }
 {
     let line = cursor.line()?;
-    cursor.read_as(kind, zone_in(alloc, kind.key(), line)?)
+    let zone = cursor.zone_in(alloc, kind.key(), line)?;
+    cursor.read_as(kind, zone)
 }
 
 /// The marks beside a zone.

@@ -2,12 +2,15 @@
 
 ghost use Rattle.std.specs.Prelude.{◌≡◌, ◌≢◌, ◌<◌, ◌≤◌, ◌+◌, ◌*◌, ◌++◌, ◌∷◌, ℕ, ℤ, List, Bool, [], Some, MatchOption, IfSome, IfOk, All, length, map};
 ghost use Rattle.zones.specs.KnownBounds.{PlacedBound};
+ghost use Rattle.zones.specs.Zone.{Bounds};
 ghost use Rattle.zones.specs.Written.{Rise};
 ghost use Rattle.ed_rules.specs.Formed.{ZoneIsFormed};
-ghost use Rattle.cert_check.specs.text.Text.{Word, space, spaced, name_word, letter_a, sure_letters, letters_words, zone_line, marks_line};
+ghost use Rattle.cert_check.specs.text.Text.{Word, space, spaced, name_word, letter_a, sure_letters, letters_words, bounds_words, zone_line, marks_line};
+ghost use Rattle.cert_check.specs.text.SaidZones.{IsSaidZone};
 ghost use Rattle.cert_check.specs.text.Reading.{ReadsAs, all_marks, IsFirstWord, IsNamed, IsSigned, said_word, IsSaid, spoken_word, IsSpoken};
 
 use crate::text::has_text::zone_has_text;
+use crate::text::said_zones::SaidZones;
 use crate::text::words::name_byte;
 use crate::text::words_in::{after_key, signed_in, word_len};
 use ed_base::Letter;
@@ -170,22 +173,39 @@ fn bounds_said(alloc: Global, text: &[u8]) -> Result<Option<Vec<KeptEntry>>, All
     Ok(Some(bounds))
 }
 
-/// The zone of a line, whatever letters it speaks of.
-pub(crate) fn zone_in(
-    alloc: Global,
-    key: &[u8],
-    line: &[u8],
-) -> Result<Option<KeptZone>, AllocError>
-    ensures exact { IfOk result (λ zone. ReadsAs (zone_line key.now) (ZoneIsFormed all_marks) line.now zone) }
+/// The zone that words say, whatever letters it speaks of.
+fn zone_said(alloc: Global, words: &[u8]) -> Result<Option<KeptZone>, AllocError>
+    ensures exact { IfOk result (λ zone. MatchOption zone
+        ((other : Bounds) → ZoneIsFormed all_marks other → spaced (bounds_words 0 other) ≢ words.now)
+        (IsSaidZone words.now)) }
 {
-    let Some(left) = after_key(key, line) else {
-        return Ok(None);
-    };
-    let Some(bounds) = bounds_said(alloc, left)? else {
+    let Some(bounds) = bounds_said(alloc, words)? else {
         return Ok(None);
     };
     let Some(zone) = KeptZone::from_entries(bounds) else {
         return Ok(None);
     };
+    Ok(Some(zone))
+}
+
+/// The zone of a line, whatever letters it speaks of. Where its words say a zone that is kept, that one is copied.
+pub(crate) fn zone_in<'a>(
+    alloc: Global,
+    key: &[u8],
+    line: &'a [u8],
+    kept: &mut SaidZones<'a>,
+) -> Result<Option<KeptZone>, AllocError>
+    ensures exact { IfOk result (λ zone. ReadsAs (zone_line key.now) (ZoneIsFormed all_marks) line.now zone) }
+{
+    let Some(words) = after_key(key, line) else {
+        return Ok(None);
+    };
+    if let Some(zone) = kept.zone_of(words)? {
+        return Ok(Some(zone));
+    }
+    let Some(zone) = zone_said(alloc, words)? else {
+        return Ok(None);
+    };
+    kept.keep(words, &zone)?;
     Ok(Some(zone))
 }

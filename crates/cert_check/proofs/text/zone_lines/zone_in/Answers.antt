@@ -1,43 +1,16 @@
-use Rattle.std.proofs.Common.{◌++◌, ℕ, refl, List, map, ◌∙◌, sym, ap, subst}
-use Rattle.std.specs.List.{All}
-use Rattle.zones.specs.KnownBounds.{PlacedBound, known_bounds}
-use Rattle.zones.proofs.Rising.{AreKnownBounds-known}
-use Rattle.cert_check.specs.text.Text.{Word, spaced, bounds_words}
-use Rattle.cert_check.specs.text.Reading.{spoken_word, IsSpoken}
+use Rattle.std.proofs.Common.{◌++◌, ℕ, List, ◌∙◌, sym, ap}
+use Rattle.cert_check.specs.text.Text.{bounds_words}
 use Rattle.cert_check.proofs.texts.ReadSets.{after-its-key}
-use Rattle.cert_check.proofs.texts.SpokenBounds.{bounds-same, spoken-zone, formed-spoken, spoken-formed}
 use Rattle.cert_check.proofs.text.zone_lines.zone_in.Goals as goal
 
-pub returns-in_default-2 : goal.returns-in_default-2
-returns-in_default-2 c = record {
+pub returns-in_default-3 : goal.returns-in_default-3
+returns-in_default-3 c = record {
   exact = λ v h e.
-      let says = after-its-key c.args.key.now c.args.line.now c.in-Some.left.now (bounds_words 0 v) c.in-Some.ensures.cases e in
-      let spoken = formed-spoken v h in
-      let none = rw c.in_default-2.is at c.in_ok-bounds.ensures.exact in
-      none (known_bounds v) spoken (AreKnownBounds-known v (known_bounds v) h.is_zone.size refl).rise (ap (λ (ws : List Word). spaced ws) (sym (spoken-zone v spoken)) ∙ says);
-}
-
-pub returns-in_default-from_entries : goal.returns-in_default-from_entries
-returns-in_default-from_entries c = record {
-  exact = λ v h e.
-      let says = after-its-key c.args.key.now c.args.line.now c.in-Some.left.now (bounds_words 0 v) c.in-Some.ensures.cases e in
-      let spoken = formed-spoken v h in
-      let read = rw c.in-Some-2.is at c.in_ok-bounds.ensures.exact in
-      c.in_default-from_entries.ensures.exact v h.is_zone.size
-      (bounds-same (known_bounds v) c.in-Some-2.bounds.items spoken read.0 (ap (λ (ws : List Word). spaced ws) (sym (spoken-zone v spoken)) ∙ says ∙ sym read.1));
+      let none = rw c.in_default-3.is at c.in_ok-zone-2.ensures.exact in
+      none v h (after-its-key c.args.key.now c.args.line.now c.in-Some.words.now (bounds_words 0 v) c.in-Some.ensures.cases e);
 }
 
 pub returns : goal.returns
 returns c =
-    let zone = c.in-Some-from_entries.zone in
-    let read = rw c.in-Some-2.is at c.in_ok-bounds.ensures.exact in
-    let known = c.in-Some-from_entries.ensures.exact in
-    let spoken = subst (λ (bs : List PlacedBound). All IsSpoken bs) (sym known) read.0 in
-    record {
-      exact = (
-        ap (λ (t : List ℕ). c.args.key.now ++ t)
-            (ap (λ (ws : List Word). spaced ws) (spoken-zone zone spoken) ∙ ap (λ (bs : List PlacedBound). spaced (map spoken_word bs)) known ∙ read.1)
-            ∙ sym c.in-Some.ensures.cases,
-        spoken-formed zone c.in-Some-from_entries.ensures.well_formed spoken,
-      );
-    }
+    let said = rw c.in-Some-3.is at c.in_ok-zone-2.ensures.exact in
+    record { exact = (ap (λ (t : List ℕ). c.args.key.now ++ t) said.0 ∙ sym c.in-Some.ensures.cases, said.1) }
