@@ -109,17 +109,17 @@ stands (byte ∷ text) (suc place) all =
 abbrev Matches : Tree → List ℕ → List ℕ → Type 0
 Matches tree word text = (place : ℕ) (groups : Groups) → ways tree text place groups ≡ only_if (begins_with (drop place text) word) (place + length word, groups)
 
-one_way : (test : Bool) (way : Way) (f : Way → List Way) → flat_map f (by_end (only_if test way)) ≡ cond test (f way) []
+pub one_way : (test : Bool) (way : Way) (f : Way → List Way) → flat_map f (by_end (only_if test way)) ≡ cond test (f way) []
 one_way true way f = append-nil (f way)
 one_way false way f = refl
 
-end_moved : (test : Bool) (one other : ℕ) (groups : Groups) → one ≡ other → only_if test (one, groups) ≡ only_if test (other, groups)
+pub end_moved : (test : Bool) (one other : ℕ) (groups : Groups) → one ≡ other → only_if test (one, groups) ≡ only_if test (other, groups)
 end_moved test one other groups e = ap (λ end. only_if test (end, groups)) e
 
 no_way : (test : Bool) (one other : List Way) → test ≡ false → cond test one other ≡ other
 no_way test one other e = ap (λ t. cond t one other) e
 
-both_tests : (test more : Bool) (way : Way) → cond test (only_if more way) [] ≡ only_if (test && more) way
+pub both_tests : (test more : Bool) (way : Way) → cond test (only_if more way) [] ≡ only_if (test && more) way
 both_tests true more way = refl
 both_tests false more way = refl
 
@@ -139,7 +139,7 @@ set_then negated ranges byte rest word text e all later place groups =
     ∙ ap (λ bytes. only_if (begins_with bytes (byte ∷ word)) (place + length (byte ∷ word), groups)) (sym found.2.there))
     (stands text place all)
 
-parts : (byte : Option ℕ) (rest : Option (List ℕ)) (word : List ℕ) → before byte rest ≡ Some word → (first : ℕ) × (others : List ℕ) × (byte ≡ Some first) × (rest ≡ Some others) × (first ∷ others ≡ word)
+pub parts : (byte : Option ℕ) (rest : Option (List ℕ)) (word : List ℕ) → before byte rest ≡ Some word → (first : ℕ) × (others : List ℕ) × (byte ≡ Some first) × (rest ≡ Some others) × (first ∷ others ≡ word)
 parts None rest word e = absurd cc
 parts (Some first) None word e = absurd cc
 parts (Some first) (Some others) word e = (first, others, refl, refl, cc)

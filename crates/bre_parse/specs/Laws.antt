@@ -1,13 +1,17 @@
 -- Laws of readings, ways and matches: where they lie, why a match may be searched for in other ways than by listing all of
 -- them, and that the counts in the definitions bound nothing.
-use Rattle.std.specs.Prelude.{◌≡◌, ℕ, ◌+◌, ◌<◌, ◌≤◌, false, List, [], ◌∷◌, length, drop, Option, Some, None, nat_eq, if◌then◌else◌}
+use Rattle.std.specs.Prelude.{◌≡◌, ℕ, ◌+◌, ◌<◌, ◌≤◌, ◌⊎◌, true, false, List, [], ◌∷◌, length, drop, Option, Some, None, nat_eq, if◌then◌else◌}
 use Rattle.std.specs.List.{All}
+use Rattle.std.specs.Option.{IsSome}
 use Rattle.bre_parse.specs.Tree.{Tree, Repeat}
 use Rattle.bre_parse.specs.Brackets.{more_elements}
 use Rattle.bre_parse.specs.Grammar.{repeats, items}
 use Rattle.bre_parse.specs.Groups.{Groups, refers}
 use Rattle.bre_parse.specs.Ways.{Way, ways, turns, fresh_turn, enough, by_end, only_if, begins_with}
 use Rattle.bre_parse.specs.Literal.{literal}
+use Rattle.bre_parse.specs.Always.{has_last_anchor}
+use Rattle.bre_parse.specs.TextHeads.{cannot_start, untouched, is_anchored, head_asked, head_matches, head_clashes}
+use Rattle.bre_parse.specs.Words.{word_between, stands_at, are_apart}
 use Rattle.bre_parse.specs.Match.{match_from}
 
 -- where some ways end, in their order
@@ -88,3 +92,45 @@ WaysIgnoreCount =
     place ≤ length text → enough least text place ≤ more →
     turns more (fresh_turn content (ways content text)) least most 0 place groups
     ≡ ways (Repeat least most content) text place groups
+
+-- In a text with this head no way starts at a place that blocks all.
+abbrev pub BlockedStarts : Type 0
+BlockedStarts =
+    (tree : Tree) (head text : List ℕ) (place : ℕ) (groups : Groups) → cannot_start tree head place ≡ true →
+    begins_with text head ≡ true → ways tree text place groups ≡ []
+
+-- A text with a head begins with what of it stays untouched, and no way starts there.
+abbrev pub UntouchedStands : Type 0
+UntouchedStands = (tree : Tree) (head text : List ℕ) → begins_with text head ≡ true → begins_with text (untouched tree head) ≡ true
+
+abbrev pub UntouchedHasNone : Type 0
+UntouchedHasNone =
+    (tree : Tree) (head text : List ℕ) (place : ℕ) (groups : Groups) → begins_with text head ≡ true →
+    place < length (untouched tree head) → ways tree text place groups ≡ []
+
+-- Each text that a pattern matches begins with the head that it asks for.
+abbrev pub HeadIsAsked : Type 0
+HeadIsAsked =
+    (tree : Tree) (text : List ℕ) (found : ℕ × Way) → match_from tree text 0 ≡ Some found → begins_with text (head_asked tree) ≡ true
+
+-- A pattern that a head matches has a match in each text with it, and one that it clashes with has none.
+abbrev pub HeadsAreMatched : Type 0
+HeadsAreMatched =
+    (tree : Tree) (head text : List ℕ) → head_matches head tree ≡ true → begins_with text head ≡ true → IsSome (match_from tree text 0)
+
+abbrev pub ClashingHeadsMatchNothing : Type 0
+ClashingHeadsMatchNothing =
+    (tree : Tree) (head text : List ℕ) → head_clashes head tree ≡ true → begins_with text head ≡ true → match_from tree text 0 ≡ None
+
+-- A word between anchors has one way from where it stands, to its end, and else none. Nothing is asked of the text's bytes.
+abbrev pub WordsMatchThemselves : Type 0
+WordsMatchThemselves =
+    (tree : Tree) (word text : List ℕ) (place : ℕ) (groups : Groups) → word_between tree ≡ Some word →
+    ways tree text place groups
+    ≡ only_if (stands_at (is_anchored tree) (has_last_anchor tree) text word place) (place + length word, groups)
+
+-- Where two words stand that are apart, one ends before the other begins.
+abbrev pub ApartWordsDoNotMeet : Type 0
+ApartWordsDoNotMeet =
+    (one other text : List ℕ) (i j : ℕ) → are_apart one other ≡ true → begins_with (drop i text) one ≡ true →
+    begins_with (drop j text) other ≡ true → (i + length one ≤ j) ⊎ (j + length other ≤ i)

@@ -1,6 +1,6 @@
 //! Laws of readings, ways and matches, each the contract of a function that does nothing.
 
-ghost use Rattle.bre_parse.specs.Laws.{EndsIgnoreGroups, OrderKeepsFirst, WaysEndWithin, MatchesLieWithin, LiteralsMatchThemselves, ElementsIgnoreCount, RepeatsIgnoreCount, ItemsIgnoreCount, WaysIgnoreCount};
+ghost use Rattle.bre_parse.specs.Laws.{EndsIgnoreGroups, OrderKeepsFirst, WaysEndWithin, MatchesLieWithin, LiteralsMatchThemselves, BlockedStarts, UntouchedStands, UntouchedHasNone, HeadIsAsked, HeadsAreMatched, ClashingHeadsMatchNothing, WordsMatchThemselves, ApartWordsDoNotMeet, ElementsIgnoreCount, RepeatsIgnoreCount, ItemsIgnoreCount, WaysIgnoreCount};
 
 /// Without back-references the ends of a part's ways don't depend on the groups.
 #[tactic(auto, using(crate::proofs::SameEnds::ends_ignore_groups))]
@@ -40,4 +40,22 @@ pub fn readings_ignore_counts()
 /// The count of turns is no limit: a greater one gives a repeat the same ways.
 pub fn ways_ignore_count()
     ensures law { WaysIgnoreCount }
+{}
+
+/// What a head tells of each text that begins with it: where no match starts, and whether a pattern matches.
+#[tactic(auto, using(crate::proofs::TextHeadLaws::blocked_starts, crate::proofs::TextHeadLaws::untouched_stands, crate::proofs::TextHeadLaws::untouched_has_none, crate::proofs::TextHeadLaws::head_is_asked, crate::proofs::TextHeadLaws::heads_are_matched, crate::proofs::TextHeadLaws::clashing_heads_match_nothing))]
+pub fn heads_tell()
+    ensures blocked { BlockedStarts }
+    ensures untouched { UntouchedStands }
+    ensures none { UntouchedHasNone }
+    ensures asked { HeadIsAsked }
+    ensures matched { HeadsAreMatched }
+    ensures clashing { ClashingHeadsMatchNothing }
+{}
+
+/// A word between anchors matches itself alone, and two words that are apart share no byte of a text.
+#[tactic(auto, using(crate::proofs::WordLaws::words_match_themselves, crate::proofs::WordLaws::apart_words_do_not_meet))]
+pub fn words_match_themselves()
+    ensures ways { WordsMatchThemselves }
+    ensures apart { ApartWordsDoNotMeet }
 {}

@@ -18,15 +18,18 @@ mod literal;
 mod refusal;
 mod repeat;
 mod spelling;
+mod text_heads;
 pub mod tree;
+mod words;
 
 pub use always::always_matches;
 pub use bracket::after_bracket;
 use fault::BreFault;
 use item::whole;
 pub use laws::{
-    ends_ignore_groups, literals_match_themselves, matches_lie_within, order_keeps_first,
-    readings_ignore_counts, ways_end_within, ways_ignore_count,
+    ends_ignore_groups, heads_tell, literals_match_themselves, matches_lie_within,
+    order_keeps_first, readings_ignore_counts, ways_end_within, ways_ignore_count,
+    words_match_themselves,
 };
 use literal::copied;
 use refusal::Refusal;
@@ -55,6 +58,8 @@ impl Bre {
     ghost use Rattle.bre_parse.specs.Grammar.{pattern, nesting, deepest};
     ghost use Rattle.bre_parse.specs.WellFormed.{repeats_in_order};
     ghost use Rattle.bre_parse.specs.Always.{always};
+    ghost use Rattle.bre_parse.specs.TextHeads.{untouched, head_asked, head_matches, head_clashes};
+    ghost use Rattle.bre_parse.specs.Words.{keeps_word};
     ghost use Rattle.bre_parse.specs.Match.{match_from};
     ghost use Rattle.bre_parse.specs.Bre.{bre_tree};
 
@@ -121,6 +126,41 @@ impl Bre {
         ensures matched { IsTrue result → (text : List ℕ) → IsSome (match_from (bre_tree self.now) text 0) }
     {
         always::always(&self.items)
+    }
+
+    /// The head up to the first place where a match of the pattern may start.
+    pub fn untouched<'a>(&self, head: &'a [u8]) -> &'a [u8]
+        ensures value { result.now ≡ untouched (bre_tree self.now) head.now }
+    {
+        text_heads::untouched(&self.items, head)
+    }
+
+    /// The bytes with which each text begins that the pattern matches, as far as they are known.
+    pub fn head_asked(&self) -> Result<Vec<u8>, AllocError>
+        ensures value { IfOk result (λ head. head.items ≡ head_asked (bre_tree self.now)) }
+    {
+        text_heads::head_asked(*self.items.allocator(), &self.items)
+    }
+
+    /// Whether the pattern is `^` and then bytes with which the head begins, so that it matches each text with this head.
+    pub fn matches_head(&self, head: &[u8]) -> bool
+        ensures value { result ≡ head_matches head.now (bre_tree self.now) }
+    {
+        text_heads::head_matches(head, &self.items)
+    }
+
+    /// Whether the pattern begins with `^` and can't start at the head, so that it matches no text with it.
+    pub fn clashes_with_head(&self, head: &[u8]) -> bool
+        ensures value { result ≡ head_clashes head.now (bre_tree self.now) }
+    {
+        text_heads::head_clashes(head, &self.items)
+    }
+
+    /// Whether the pattern is a word, or a word and `$`, and matches each text that it matched where matches of the other are replaced.
+    pub fn keeps_word(&self, replaced: &Bre) -> Result<bool, AllocError>
+        ensures value { IfOk result (λ keeps. keeps ≡ keeps_word (bre_tree replaced.now) (bre_tree self.now)) }
+    {
+        words::keeps_word(*self.items.allocator(), &replaced.items, &self.items)
     }
 
     /// An equal pattern, made by the same allocator.
