@@ -1,6 +1,7 @@
 -- Lemmas and worked rows on facts of lines.
 mod FactsRows
 mod FactsMadeRows
+mod RewrittenRows
 pub mod FactsTold
 pub mod FactsOrdered
 pub mod FactsByBytes
@@ -19,3 +20,4 @@ pub mod FactsCarried
 pub mod SubstitutedFacts
 pub mod FactsSpared
 pub mod OneTurn
+pub mod RewrittenLine

@@ -18,6 +18,8 @@ pub mod Moving
 pub mod Lettered
 pub mod Flags
 pub mod Results
+pub mod TakenMatches
+pub mod KeptWords
 pub mod SparedLines
 pub mod Substituting
 pub mod SubstitutionEffects

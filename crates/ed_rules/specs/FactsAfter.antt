@@ -1,6 +1,6 @@
 -- The rules of single lines: what a run that follows them knows of them after each command. They stand beside the rules of bounds and sets,
 -- which leave this aside. What isn't said here is forgotten.
-use Rattle.std.specs.Prelude.{ℕ, pos, negsuc, Bool, true, ◌&&◌, not, List, [], ◌∷◌, map, if◌then◌else◌}
+use Rattle.std.specs.Prelude.{ℕ, pos, negsuc, Bool, true, ◌&&◌, not, List, [], ◌∷◌, map, Option, Some, None, if◌then◌else◌}
 use Rattle.std.specs.List.{filter, range_with_len}
 use Rattle.zones.specs.Name.{current_line, last_line, first_address, second_address, target_address, mark}
 use Rattle.zones.specs.Known.{known}
@@ -18,13 +18,14 @@ use Rattle.ed_rules.specs.Texts.{with_texts}
 use Rattle.ed_rules.specs.Matched.{gained}
 use Rattle.ed_rules.specs.Order.{facts_of_both}
 use Rattle.ed_rules.specs.Matching.{joining_given}
-use Rattle.ed_rules.specs.Following.{patterns_of, facts_set, spoken_facts}
+use Rattle.ed_rules.specs.Following.{patterns_of, facts_set, spoken_facts, only_pattern}
 use Rattle.ed_rules.specs.facts.Facts.{Facts, no_facts}
 use Rattle.ed_rules.specs.facts.FoundLines.{without}
 use Rattle.ed_rules.specs.facts.PrunedFacts.{pruned}
 use Rattle.ed_rules.specs.facts.CarriedFacts.{carried_facts}
 use Rattle.ed_rules.specs.facts.SubstitutedFacts.{substituted_facts}
-use Rattle.ed_rules.specs.facts.EditedFacts.{Edit, stays, edited, deletion, changing, joining, rewriting, appending, reading, copying, inserting}
+use Rattle.ed_rules.specs.facts.RewrittenLine.{matched_at, left_if}
+use Rattle.ed_rules.specs.facts.EditedFacts.{Fresh, Edit, stays, edited, deletion, changing, joining, rewriting, appending, reading, copying, inserting}
 
 -- THE END OF EACH RULE
 
@@ -98,12 +99,24 @@ facts_spared b r =
     substituted_facts b.zone b.facts (texts_of r.patterns) [] (map (λ (letter : ℕ). mark letter) (letters_that_stay reading b r.marks))
     (patterns_of b.facts)
 
+-- What is known of the line that `s` makes of the addressed one. The possible patterns of the state that it makes are those that it may have
+-- looked for.
+abbrev pub line_left : Old → (r : State) → Fresh
+line_left b r = left_if (only_pattern r.patterns) (matched_at b.zone b.facts first_address (patterns_of b.facts))
+
+-- where the line may be split, not even how many lines come of it
+abbrev pub lines_left : Old → (r : State) → Option (List Fresh)
+lines_left b r = if r.replacements.split then None else Some (line_left b r ∷ [])
+
+-- `s` of one line
+abbrev pub facts_rewritten : Old → (r : State) → Facts
+facts_rewritten b r = facts_edited [] (rewriting (lines_left b r)) b r.marks
+
 -- `s`, by the state that it makes. Outside of lists it goes on only where something is replaced, and of one addressed line that is this line.
 -- Elsewhere nothing is known where lines may be split.
 abbrev pub facts_substituted : (listed : Bool) → Old → (r : State) → Facts
 facts_substituted listed b r =
-    if not listed && known b.zone second_address first_address (pos 0)
-    then facts_edited [] (rewriting r.replacements.split) b r.marks
+    if not listed && known b.zone second_address first_address (pos 0) then facts_rewritten b r
     else if r.replacements.split then no_facts
     else facts_spared b r
 

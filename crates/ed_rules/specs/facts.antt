@@ -5,6 +5,7 @@ pub mod SearchOrder
 pub mod FoundLines
 pub mod FoundHolds
 pub mod EditedFacts
+pub mod RewrittenLine
 pub mod NewLines
 pub mod PrunedFacts
 pub mod EditHolds

@@ -1,6 +1,8 @@
 //! Laws about facts of lines: contracts of functions that do nothing.
 
-ghost use Rattle.std.specs.Prelude.{◌≡◌, ◌⊎◌, ℕ, ◌<◌, ◌≤◌, pos, ◌+ℤ◌, ℤ, ◌≤ℤ◌, ◌+◌, ◌-◌, ◌++◌, max, reverse, find, true, List, ◌∷◌, length, Some, None, Bool, false, []};
+ghost use Rattle.std.specs.Prelude.{◌≡◌, ◌⊎◌, ℕ, ◌<◌, ◌≤◌, pos, ◌+ℤ◌, ℤ, ◌≤ℤ◌, ◌+◌, ◌-◌, ◌++◌, max, reverse, find, true, List, ◌∷◌, length, All, Some, None, Ok, Bool, false, []};
+ghost use Rattle.bre_parse.specs.Tree.{Tree};
+ghost use Rattle.bre_parse.specs.Grammar.{pattern};
 ghost use Rattle.zones.specs.Zone.{Bounds, Numbers, Holds, updated};
 ghost use Rattle.ed_base.specs.Buffer.{Line, plain_line, texts};
 ghost use Rattle.ed_syntax.specs.meaning.Values.{matches, matches_line, upwards, searched, lines_forward, lines_backward};
@@ -17,6 +19,8 @@ ghost use Rattle.ed_rules.specs.facts.FoundHolds.{KnownHolds, ReadsPlaces, Finds
 ghost use Rattle.ed_syntax.specs.meaning.SubstitutedLines.{each, made_of};
 ghost use Rattle.ed_syntax.specs.declared.replacement.Part.{Part};
 ghost use Rattle.ed_syntax.specs.declared.replacement.Which.{Which};
+ghost use Rattle.ed_syntax.specs.meaning.Substitution.{taken, picked, rewritten};
+ghost use Rattle.ed_rules.specs.facts.RewrittenLine.{left_if};
 ghost use Rattle.ed_rules.specs.facts.SubstitutedFacts.{Makes, MakesOfEach, IsSubstituted, substituted_facts};
 ghost use Rattle.ed_rules.specs.facts.CarriedFacts.{carried_facts};
 ghost use Rattle.ed_rules.specs.facts.CarriedHolds.{IsCarried};
@@ -163,6 +167,15 @@ pub fn substituted_facts_are_true()
     // What `s` makes of a line that its pattern doesn't match is nothing.
     ensures unmatched { (text : List ℕ) (parts : List Part) (choice : Which) (bytes : List ℕ) → matches text bytes ≡ false →
         made_of text parts choice bytes ≡ None }
+{}
+
+/// What is known of the line that comes of one by an `s` is true of it, whatever is put in place of the matches, and whichever are replaced: `matched`
+/// are patterns that the old line matches.
+pub fn rewritten_lines_are_as_told()
+    ensures told { (sought : List ℕ) (replaced : Tree) (parts : List Part) (choice : Which) (line : List ℕ) (matched : List (List ℕ))
+        (text : List ℕ) (answer : Bool) →
+        pattern sought ≡ Ok replaced → All (λ q. matches q line ≡ true) matched → left_if (Some sought) matched text ≡ Some answer →
+        matches text (rewritten parts line 0 (picked choice (taken replaced line))) ≡ answer }
 {}
 
 /// Where a fact says that one line alone matches the pattern of a `g`, the line that is taken is that one, and no line is left to be taken.

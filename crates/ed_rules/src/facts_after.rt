@@ -4,14 +4,16 @@ ghost use Rattle.std.specs.Prelude.{◌≡◌, [], IfOk};
 ghost use Rattle.zones.specs.Name as name;
 ghost use Rattle.ed_rules.specs.facts.Facts.{at};
 ghost use Rattle.ed_rules.specs.facts.EditedFacts.{edit_of, reading, copying};
-ghost use Rattle.ed_rules.specs.facts.NewLines.{fresh_of};
+ghost use Rattle.ed_rules.specs.facts.NewLines.{fresh_of, fresh_if};
 ghost use Rattle.ed_rules.specs.Matching.{joining_given};
 ghost use Rattle.ed_syntax.specs.PublicTypes.{addresses_value, verb_value};
-ghost use Rattle.ed_rules.specs.FactsAfter.{facts_ended, facts_as, facts_inserted, facts_edited, facts_appended, facts_put_before, facts_changed, facts_maybe_joined, facts_joined, facts_moved, facts_spared, facts_substituted, facts_left};
+ghost use Rattle.ed_rules.specs.FactsAfter.{facts_ended, facts_as, facts_inserted, facts_edited, facts_appended, facts_put_before, facts_changed, facts_maybe_joined, facts_joined, facts_moved, facts_spared, line_left, facts_rewritten, facts_substituted, facts_left};
 
+use crate::following::only_pattern;
 use crate::line_facts::LineFacts;
 use crate::line_facts::edited::Gap;
 use crate::line_facts::new_lines::NewLines;
+use crate::line_facts::rewritten::RewrittenLine;
 use crate::marks::Marks;
 use crate::matching::{Certainty, joining_given};
 use crate::order::facts_of_both;
@@ -74,7 +76,7 @@ impl Old {
         self.edited(alloc, gap, new, after, &patterns)
     }
 
-    /// Nothing takes the place of the addressed lines, or one line of which nothing is known.
+    /// The addressed lines give way to these, which are tested for no further pattern.
     fn facts_untested(
         &self,
         alloc: Global,
@@ -146,6 +148,33 @@ impl Old {
         self.substituted(alloc, &after.patterns, &after.marks, &patterns)
     }
 
+    /// What is known of the line that `s` makes of the addressed one, where it is known which pattern is looked for.
+    fn line_left(&self, alloc: Global, after: &State) -> Result<Option<RewrittenLine>, AllocError>
+        ensures value { IfOk result (λ line. fresh_if line ≡ line_left self.now after.now) }
+    {
+        let Some(sought) = only_pattern(&after.patterns)? else {
+            return Ok(None);
+        };
+        let patterns = self.facts.patterns(alloc)?;
+        let matched = self
+            .facts
+            .matched_at(alloc, &self.zone, Name::FIRST_ADDRESS, &patterns)?;
+        RewrittenLine::of(alloc, sought.as_slice(), matched)
+    }
+
+    /// `s` of one line.
+    fn facts_rewritten(&self, alloc: Global, after: &State) -> Result<LineFacts, AllocError>
+        ensures value { IfOk result (λ facts. facts ≡ facts_rewritten self.now after.now) }
+    {
+        if after.replacements.split {
+            return self.facts_untested(alloc, NewLines::Any, &after.marks);
+        }
+        match self.line_left(alloc, after)? {
+            Some(line) => self.facts_untested(alloc, NewLines::Rewritten(&line), &after.marks),
+            None => self.facts_untested(alloc, NewLines::One, &after.marks),
+        }
+    }
+
     /// `s`, which makes the state `after`. In a list it may leave a line as it is.
     fn facts_substituted(
         &self,
@@ -157,11 +186,12 @@ impl Old {
     {
         let (first, last) = (Name::FIRST_ADDRESS, Name::SECOND_ADDRESS);
         let is_line = !listed && self.zone.is_known(last, first, 0);
-        match (is_line, after.replacements.split) {
-            (true, true) => self.facts_untested(alloc, NewLines::Any, &after.marks),
-            (true, false) => self.facts_untested(alloc, NewLines::One, &after.marks),
-            (false, true) => Ok(LineFacts::none(alloc)),
-            (false, false) => self.facts_spared(alloc, after),
+        if is_line {
+            self.facts_rewritten(alloc, after)
+        } else if after.replacements.split {
+            Ok(LineFacts::none(alloc))
+        } else {
+            self.facts_spared(alloc, after)
         }
     }
 

@@ -34,8 +34,9 @@ pub use ed_base::Texts;
 pub use fact_laws::{
     assigned_facts_are_true, carried_facts_are_true, edited_facts_are_true,
     facts_are_left_by_commands, facts_go_by_bytes, joined_facts_are_covered,
-    only_lines_are_taken_once, searches_find_the_first, searches_find_what_facts_say,
-    substituted_facts_are_true, weaker_facts_hold_more, what_facts_say_is_true,
+    only_lines_are_taken_once, rewritten_lines_are_as_told, searches_find_the_first,
+    searches_find_what_facts_say, substituted_facts_are_true, weaker_facts_hold_more,
+    what_facts_say_is_true,
 };
 pub use globals::{body_entry, loop_end, loop_start, once_entry};
 pub use kept::KeptState;

@@ -11,6 +11,7 @@ mod known;
 pub(crate) mod new_lines;
 mod order;
 mod pruned;
+pub(crate) mod rewritten;
 mod substituted;
 
 ghost use Rattle.std.specs.Prelude.{◌≡◌, ◌<◌, ◌↔◌, [], IsTrue, IfOk, OnOk, OnErr};

@@ -301,7 +301,7 @@ static EDITS: [Row; 96] = [
 
 #[rattlefmt::skip]
 static SUBSTITUTIONS: [Row; 50] = [
-    // Of the line that comes of one nothing is known; the others are as they were, with their letters.
+    // The line that comes of one has lost its A, and its letter; the others are as they were, with theirs.
     Row { script: b"'ys/A/x/\n", asked: Asked::Line(b'.', b"A", None) },
     Row { script: b"'ys/A/x/\n", asked: Asked::Line(b'y', b"A", None) },
     Row { script: b"'ys/A/x/\n", asked: Asked::Line(b'z', b"B", YES) },

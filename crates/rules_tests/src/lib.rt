@@ -38,6 +38,8 @@ mod offered;
 #[cfg(test)]
 mod plain;
 #[cfg(test)]
+mod rewritten_lines;
+#[cfg(test)]
 mod rules;
 #[cfg(test)]
 mod some_lines;

@@ -184,25 +184,15 @@ join-left zone facts marks number e x joined t from order letters patterns after
     facts-left zone facts joining marks after_marks number after e.lines (plain_line joined ∷ []) x.first x.last e.current x.first letters t.holds t.facts_hold (omega arith) (omega arith)
     (at-first number 3 x.first t.first_is) (at-first number 4 x.last t.last_is) from (omega arith) t.inside t.reads q (inl (omega arith)) (λ y. line_with-plain y (joined ∷ [])) ((λ p answer h. absurd cc), tt) all patterns
 
--- one line of which nothing is known
-unknown-fresh : (new : List Line) → length new ≡ 1 → AreFresh ((λ pattern. None) ∷ []) new
-unknown-fresh [] one = absurd (omega arith)
-unknown-fresh (line ∷ []) one = ((λ p answer h. absurd cc), tt)
-unknown-fresh (line ∷ more ∷ new) one = absurd (omega arith)
-
-rewritten-fresh : (splits : Bool) (new : List Line) → (splits ≡ false → length new ≡ 1) → AreFreshIf (rewriting splits).fresh new
-rewritten-fresh true new one = tt
-rewritten-fresh false new one = unknown-fresh new (one refl)
-
 -- `s` of one line
-pub rewrite-left : (zone : Bounds) (facts : Facts) (marks : List Bool) (number : Numbers) (e : editor.State) (x : Span) (splits : Bool) (new : List Line) (made : editor.State) →
-    Takes zone facts marks number e x → 1 ≤ x.first → x.first ≤ x.last → (splits ≡ false → length new ≡ 1) → ((y : ℕ) → line_with y new ≡ None) →
-    made.lines ≡ replaced x.first x.last new e.lines → made.current + 1 ≡ x.first + length new → FactsAreLeft zone facts marks (rewriting splits) made
-rewrite-left zone facts marks number e x splits new made t from order one none is last letters patterns after_marks after q all =
-    subst (λ (ls : List Line). FactsHold (edited zone facts (rewriting splits) (map mark letters) patterns) after ls) (sym is)
-    (facts-left zone facts (rewriting splits) marks after_marks number after e.lines new x.first x.last e.current made.current letters t.holds t.facts_hold (omega arith) (omega arith)
+pub rewrite-left : (zone : Bounds) (facts : Facts) (marks : List Bool) (number : Numbers) (e : editor.State) (x : Span) (fresh : Option (List Fresh)) (new : List Line) (made : editor.State) →
+    Takes zone facts marks number e x → 1 ≤ x.first → x.first ≤ x.last → AreFreshIf fresh new → ((y : ℕ) → line_with y new ≡ None) →
+    made.lines ≡ replaced x.first x.last new e.lines → made.current + 1 ≡ x.first + length new → FactsAreLeft zone facts marks (rewriting fresh) made
+rewrite-left zone facts marks number e x fresh new made t from order known none is last letters patterns after_marks after q all =
+    subst (λ (ls : List Line). FactsHold (edited zone facts (rewriting fresh) (map mark letters) patterns) after ls) (sym is)
+    (facts-left zone facts (rewriting fresh) marks after_marks number after e.lines new x.first x.last e.current made.current letters t.holds t.facts_hold (omega arith) (omega arith)
     (at-first number 3 x.first t.first_is) (at-first number 4 x.last t.last_is) from (omega arith) t.inside t.reads
-    (subst (λ (ls : List Line). Reads after_marks ls made.current after) is q) (inl last) none (rewritten-fresh splits new one) all patterns)
+    (subst (λ (ls : List Line). Reads after_marks ls made.current after) is q) (inl last) none known all patterns)
 
 -- `t`
 pub copy-left : (zone : Bounds) (facts : Facts) (marks : List Bool) (number : Numbers) (e : editor.State) (x : Span) (target : ℕ) → Takes zone facts marks number e x → 1 ≤ x.first → x.first ≤ x.last →

@@ -10,6 +10,7 @@ use Rattle.ed_base.specs.Lines.{newline, lines_of, IsLine}
 use Rattle.ed_base.specs.Buffer.{Line, plain_line, with_letter, marked_at, texts, KnowLetters}
 use Rattle.std.proofs.Common.{zero, suc, map, get_or, take, All}
 use Rattle.std.specs.List.{concat, range_with_len}
+use Rattle.std.proofs.lemmas.List.{length-map}
 use Rattle.std.proofs.lemmas.List.Elements.{All-nil, All-cons, All-take, All-drop}
 use Rattle.ed_base.specs.Parts as parts
 use Rattle.ed_base.specs.Parts.{between}
@@ -59,7 +60,7 @@ use Rattle.ed_rules.specs.Files.{named, named_first, named_anew, whole_or_ranged
 use Rattle.ed_rules.specs.Choices.{Choice, has_choice, texts_of}
 use Rattle.ed_rules.specs.Matched.{gained}
 use Rattle.ed_rules.specs.Matching.{joining_given, saying, matches_after}
-use Rattle.ed_rules.specs.FactsAfter.{facts_ended, facts_as, facts_inserted, stays_marked, letters_that_stay, facts_edited, facts_changed, facts_maybe_joined, facts_joined, facts_moved, facts_spared, facts_substituted, facts_left, facts_after}
+use Rattle.ed_rules.specs.FactsAfter.{facts_ended, facts_as, facts_inserted, stays_marked, letters_that_stay, facts_edited, facts_changed, facts_maybe_joined, facts_joined, facts_moved, facts_spared, lines_left, facts_rewritten, facts_substituted, facts_left, facts_after}
 use Rattle.ed_rules.specs.Substituting.{pattern_used, substituted}
 use Rattle.ed_rules.specs.Undoing.{undone}
 use Rattle.ed_rules.specs.Rules.{taken, effect, suffixed, step_at, step}
@@ -67,7 +68,7 @@ use Rattle.ed_rules.specs.facts.Facts.{Facts, FactsHold, ReadsEnds, no_facts}
 use Rattle.ed_rules.specs.facts.FoundLines.{without}
 use Rattle.ed_rules.specs.facts.PrunedFacts.{pruned}
 use Rattle.ed_rules.specs.facts.EditedFacts.{Edit, stays, deletion, changing, joining, rewriting, appending, reading, copying, inserting}
-use Rattle.ed_rules.specs.facts.EditHolds.{LetterStays, Takes, FactsAreLeft}
+use Rattle.ed_rules.specs.facts.EditHolds.{AreFreshIf, LetterStays, Takes, FactsAreLeft}
 use Rattle.ed_rules.proofs.facts.FactsLeft.{delete-left, change-left, append-left, insert-left, join-left, rewrite-left, add-left, copy-left}
 use Rattle.ed_rules.proofs.facts.FactsCarried.{carry-left}
 use Rattle.ed_rules.proofs.Basics.{Agrees, Agrees-weaker}
@@ -89,9 +90,11 @@ use Rattle.ed_rules.proofs.sound.Commanding.{command-is, IsGiven, given_or-given
 use Rattle.ed_rules.proofs.sound.Spans.{InRange}
 use Rattle.ed_rules.proofs.sound.SubstitutionEffects.{RangesKnown, allows-plain, substitute-follows}
 use Rattle.ed_rules.proofs.sound.GlobalEffects.{IsUndone, undo-known}
+use Rattle.ed_rules.proofs.facts.RewrittenLine.{rewritten-fresh}
+use Rattle.ed_rules.proofs.sound.LettersInLines.{line_with-plain}
 use Rattle.ed_rules.proofs.sound.SubstitutedLine.{IsRewritten, substitute-rewrites, IsPut, substitute-puts}
 use Rattle.ed_rules.proofs.facts.FactsSpared.{one_made, made-each-one, made-alike, spare-left}
-use Rattle.ed_syntax.specs.meaning.SubstitutedLines.{each, made_of}
+use Rattle.ed_syntax.specs.meaning.SubstitutedLines.{each}
 use Rattle.ed_rules.proofs.sound.Finishing.{Follows}
 use Rattle.ed_rules.proofs.sound.Flags.{Alike, HoldsBy-alike, texts-alike, alike-taken}
 use Rattle.ed_rules.proofs.sound.Outcomes.{always, OnMade, OnMade-bind}
@@ -491,14 +494,24 @@ module _ (pattern : Option (List ℕ)) (replacement : Option (List Part)) (choic
   abbrev LeavesLine : (listed : Bool) → State → Outcome → Type 0
   LeavesLine listed r o = ReadFacts (facts_ended r.marks (facts_substituted listed (old_of u) r)) r.marks o.state
 
-  line-read : known u.zone 4 3 (pos 0) ≡ true → u.follows ≡ true → (r : State) (o : Outcome) → Follows false e r (Makes o) → IsRewritten x q o →
-      ReadFacts (facts_ended r.marks (facts_edited [] (rewriting r.replacements.split) (old_of u) r.marks)) r.marks o.state
-  line-read one follows r o after line =
+  -- what is known of the line that is made is true of it
+  line-fresh : u.follows ≡ true → (r : State) (o : Outcome) → Follows false e r (Makes o) → (line : IsRewritten choice x q o) → AreFreshIf (lines_left (old_of u) r) (map plain_line line.new)
+  line-fresh follows r o after line =
       let allows : allows_replacement r.replacements (Some line.parts) ≡ true =
       subst (λ (parts : Option (List Part)). allows_replacement r.replacements parts ≡ true) (settled-replacement false (kept e) o ∙ line.remembered) after.1.remembered.1 in
-      edited-read [] (rewriting r.replacements.split) u r.marks o.state
-      (rewrite-left u.zone u.facts u.marks k.0.spans.numbers q x r.replacements.split line.new o.state (range-takes u q x (k.0, (k.1).0) follows) k.0.from k.0.order
-      (λ plain. line.one (allows-plain r.replacements line.parts allows plain)) line.plain line.lines line.current)
+      let possible : has_choice r.patterns (Some line.text) ≡ true =
+      subst (λ (text : Option (List ℕ)). has_choice r.patterns text ≡ true) (settled-pattern false (kept e) o ∙ line.looked_for) after.1.remembered.0 in
+      rewritten-fresh (old_of u) r choice k.0.spans.numbers q x line.text line.parts line.new (range-takes u q x (k.0, (k.1).0) follows) k.0.from k.0.order possible
+      (λ plain. allows-plain r.replacements line.parts allows plain) line.whole line.made
+
+  line-read : known u.zone 4 3 (pos 0) ≡ true → u.follows ≡ true → (r : State) (o : Outcome) → Follows false e r (Makes o) → IsRewritten choice x q o →
+      ReadFacts (facts_ended r.marks (facts_rewritten (old_of u) r)) r.marks o.state
+  line-read one follows r o after line =
+      let size = length-map line.new plain_line in
+      let current = line.current in
+      edited-read [] (rewriting (lines_left (old_of u) r)) u r.marks o.state
+      (rewrite-left u.zone u.facts u.marks k.0.spans.numbers q x (lines_left (old_of u) r) (map plain_line line.new) o.state (range-takes u q x (k.0, (k.1).0) follows) k.0.from k.0.order
+      (line-fresh follows r o after line) (λ y. line_with-plain y line.new) line.lines (omega arith))
 
   -- lines that surely stay
   spared-read : u.follows ≡ true → (listed : Bool) (r : State) (o : Outcome) → Follows listed e r (Makes o) → IsPut choice x q o → r.replacements.split ≡ false →
@@ -541,7 +554,7 @@ module _ (pattern : Option (List ℕ)) (replacement : Option (List Part)) (choic
   line-told : u.follows ≡ true → Tells (LeavesLine false) (rule false) (done false)
   line-told follows =
       let Left : Bool → State → Outcome → Type 0 = λ (b : Bool) (r : State) (o : Outcome).
-      ReadFacts (facts_ended r.marks (cond b (facts_edited [] (rewriting r.replacements.split) (old_of u) r.marks)
+      ReadFacts (facts_ended r.marks (cond b (facts_rewritten (old_of u) r)
       (cond r.replacements.split no_facts (facts_spared (old_of u) r)))) r.marks o.state in
       (elim (known u.zone 4 3 (pos 0)) as (λ b. known u.zone 4 3 (pos 0) ≡ b → Tells (Left b) (rule false) (done false)) [
         | true ↦ λ known_one.
@@ -550,7 +563,7 @@ module _ (pattern : Option (List ℕ)) (replacement : Option (List Part)) (choic
             let last = k.0.spans.last_is in
             let order = k.0.order in
             let one : x.last ≡ x.first = omega (arith, ints) in
-            tells-follow (Left true) (Follows false e) (IsRewritten x q) (rule false) (done false)
+            tells-follow (Left true) (Follows false e) (IsRewritten choice x q) (rule false) (done false)
             (substitute-follows false pattern replacement choice form s e begun u q x k whole)
             (substitute-rewrites pattern replacement choice form x q k.0.from one k.0.spans.first_in whole) (line-read known_one follows)
         | false ↦ λ _. range-told follows false

@@ -171,6 +171,12 @@ from-replaced : (parts : List Part) (line : List ℕ) (ms : List Found) (ts : Li
 from-replaced parts line [] ts e = cc
 from-replaced parts line (m ∷ ms) ts e = (m ∷ ms, cc)
 
+-- and they are those that were picked
+split-replaced : (parts : List Part) (line : List ℕ) (ms : List Found) (ts : List (List ℕ)) → option_map split_at_newlines (replaced_in parts line ms) ≡ Some ts →
+    split_at_newlines (rewritten parts line 0 ms) ≡ ts
+split-replaced parts line [] ts e = absurd cc
+split-replaced parts line (m ∷ ms) ts e = cc
+
 module _ (text : List ℕ) (parts : List Part) (choice : Which) where
   made-from : (line : List ℕ) (ts : List (List ℕ)) → made_of text parts choice line ≡ Some ts → (ns : List Found) × (split_at_newlines (rewritten parts line 0 ns) ≡ ts)
   made-from line ts =
@@ -217,10 +223,20 @@ module _ (text : List ℕ) (parts : List Part) (choice : Which) where
         All-append IsOther (bytes_of line (from, m.0)) (flat_map (expanded line m) parts ++ rewritten parts line m.1.0 ms) (bytes-line line (from, m.0) h)
         (All-append IsOther (flat_map (expanded line m) parts) (rewritten parts line m.1.0 ms) (parts-line line m parts still h) (rewritten-line line m.1.0 ms h))
 
+    -- one line, in which the matches that are picked are replaced
+    pub made-text : (line : List ℕ) (ts : List (List ℕ)) → IsLine line → made_of text parts choice line ≡ Some ts →
+        (tree : Tree) × (pattern text ≡ Ok tree) × (ts ≡ rewritten parts line 0 (picked choice (taken tree line)) ∷ [])
+    made-text line ts h =
+        (elim (pattern text) as (λ r. pattern text ≡ r → (elim r as (λ _. Option (List (List ℕ))) [ Ok tree ↦ substituted tree parts choice line | Err f ↦ None ]) ≡ Some ts →
+        (tree : Tree) × (pattern text ≡ Ok tree) × (ts ≡ rewritten parts line 0 (picked choice (taken tree line)) ∷ [])) [
+          | Ok tree ↦ λ is e.
+              let ms : List Found = picked choice (taken tree line) in
+              (tree, is, sym (split-replaced parts line ms ts e) ∙ lines_of-whole (rewritten parts line 0 ms) [] (rewritten-line line 0 ms h))
+          | Err f ↦ λ _ e. absurd cc
+        ]) refl
+
     pub made-one : (line : List ℕ) (ts : List (List ℕ)) → IsLine line → made_of text parts choice line ≡ Some ts → length ts ≡ 1
-    made-one line ts h e =
-        let q = made-from line ts e in
-        ap length (sym q.1) ∙ ap length (lines_of-whole (rewritten parts line 0 q.0) [] (rewritten-line line 0 q.0 h))
+    made-one line ts h e = ap length (made-text line ts h e).2
 
 -- a pattern that always matches
 first-taken : (again : ℕ → Bool → List Found) (o : Option Found) → IsSome o → (m : Found) × (ms : List Found) × (taken_first again 0 false o ≡ m ∷ ms)

@@ -1,8 +1,7 @@
 -- What `s` does to lines: one, outside of lists, gives way to the lines that come of it, and a range to what comes of each of its lines.
-use Rattle.std.proofs.Common.{◌≡◌, ◌≤◌, ℕ, ◌+◌, ◌-◌, Bool, true, false, List, [], ◌∷◌, ◌++◌, map, take, length, Option, None, Some, Result, Ok, Err, IfOk, refl, sym, ap, subst, ◌∙◌, arith, All}
+use Rattle.std.proofs.Common.{◌≡◌, ◌≤◌, ℕ, ◌+◌, ◌-◌, Bool, true, false, List, [], ◌∷◌, map, take, length, Option, None, Some, Result, Ok, Err, IfOk, refl, sym, ap, subst, ◌∙◌, arith, All}
 use Rattle.std.specs.Prelude.{slice_index_or}
-use Rattle.std.specs.List.{list_any}
-use Rattle.std.proofs.lemmas.List.{append-nil, length-map}
+use Rattle.std.proofs.lemmas.List.{append-nil}
 use Rattle.std.proofs.lemmas.List.Elements.{All-head, All-take, All-drop}
 use Rattle.ed_base.specs.declared.fault.Fault.{Fault}
 use Rattle.ed_base.specs.Buffer.{Line, plain_line}
@@ -19,55 +18,56 @@ use Rattle.ed_syntax.specs.meaning.Effects.{Outcome}
 use Rattle.ed_syntax.specs.meaning.Applied.{making}
 use Rattle.ed_syntax.specs.meaning.SubstitutedLines.{made_of, Results, onto, each, used_replacement, made, substitute}
 use Rattle.ed_syntax.proofs.meaning.ResultLemmas.{IfOk-bind}
-use Rattle.ed_rules.specs.StandsFor.{ends_line}
-use Rattle.ed_rules.proofs.sound.LettersInLines.{line_with, line_with-plain}
 use Rattle.ed_rules.proofs.sound.Outcomes.{always, OnMade}
-use Rattle.ed_rules.proofs.sound.Results.{made-one}
 use Rattle.ed_rules.proofs.sound.SubstitutionEffects.{one-between}
 use Rattle.ed_rules.proofs.facts.FactsSpared.{none-made, replaced-same}
 use Rattle.std.proofs.lemmas.Result.{IfOk-weaker}
 
--- the line of the span gave way to new ones, the last of them current; where the replacement has no split, to one
-pub record IsRewritten (x : Span) (e : editor.State) (o : Outcome) : Type 0 where
+-- the first line of a span
+abbrev pub line_of : Span → editor.State → Line
+line_of x e = slice_index_or e.lines (x.first - 1) (plain_line [])
+
+-- the line of the span gave way to what the substitution made of it, the last of these lines current, by what is remembered then
+pub record IsRewritten (choice : Which) (x : Span) (e : editor.State) (o : Outcome) : Type 0 where
+  pub text : List ℕ
   pub parts : List Part
-  pub new : List Line
+  pub new : List (List ℕ)
+  pub looked_for : o.state.pattern ≡ Some text
   pub remembered : o.state.replacement ≡ Some parts
-  pub lines : o.state.lines ≡ replaced x.first x.last new e.lines
+  pub whole : IsLine (line_of x e).bytes
+  pub made : made_of text parts choice (line_of x e).bytes ≡ Some new
+  pub lines : o.state.lines ≡ replaced x.first x.last (map plain_line new) e.lines
   pub current : o.state.current + 1 ≡ x.first + length new
-  pub one : list_any ends_line parts ≡ false → length new ≡ 1
-  pub plain : (y : ℕ) → line_with y new ≡ None
 
 module _ (text : List ℕ) (parts : List Part) (choice : Which) (form : Option Form) (x : Span) (e : editor.State) (from : 1 ≤ x.first) where
   abbrev begun : editor.State
   begun = record e { pattern = Some text; replacement = Some parts }
 
   -- one line
-  line-rewritten : (line : Line) → IsLine line.bytes → (o : Option (List (List ℕ))) → made_of text parts choice line.bytes ≡ o →
-      IfOk (made false form x begun (onto line o ([], None))) (IsRewritten x e)
-  line-rewritten line h None is = tt
-  line-rewritten line h (Some texts) is =
-      let same : map plain_line texts ++ [] ≡ map plain_line texts = append-nil (map plain_line texts) in
-      let size : length (map plain_line texts ++ []) ≡ length texts = ap length same ∙ length-map texts plain_line in
-      record {
-        parts = parts;
-        new = map plain_line texts ++ [];
-        remembered = refl;
-        lines = refl;
-        current = omega arith;
-        one = λ still. size ∙ made-one text parts choice still line.bytes texts h is;
-        plain = λ y. ap (line_with y) same ∙ line_with-plain y texts;
-      }
+  line-rewritten : IsLine (line_of x e).bytes → (o : Option (List (List ℕ))) → made_of text parts choice (line_of x e).bytes ≡ o →
+      IfOk (made false form x begun (onto (line_of x e) o ([], None))) (IsRewritten choice x e)
+  line-rewritten h None is = tt
+  line-rewritten h (Some texts) is = record {
+    text = text;
+    parts = parts;
+    new = texts;
+    looked_for = refl;
+    remembered = refl;
+    whole = h;
+    made = is;
+    lines = ap (λ (ls : List Line). replaced x.first x.last ls e.lines) (append-nil (map plain_line texts));
+    current = omega arith;
+  }
 
   pub range-rewritten : x.last ≡ x.first → x.first ≤ length e.lines → AreWhole e.lines →
-      IfOk (made false form x begun (each (made_of text parts choice) (between x.first x.last e.lines))) (IsRewritten x e)
+      IfOk (made false form x begun (each (made_of text parts choice) (between x.first x.last e.lines))) (IsRewritten choice x e)
   range-rewritten one inside whole =
       let Whole : Line → Type 0 = λ (line : Line). IsLine line.bytes in
-      let line : Line = slice_index_or e.lines (x.first - 1) (plain_line []) in
-      let only : between x.first x.last e.lines ≡ line ∷ [] = one-between e.lines x.first x.last from one inside in
-      let bytes : IsLine line.bytes =
-      All-head Whole line [] (subst (λ (ls : List Line). All Whole ls) only (All-drop Whole (x.first - 1) (take x.last e.lines) (All-take Whole x.last e.lines whole))) in
-      subst (λ (ls : List Line). IfOk (made false form x begun (each (made_of text parts choice) ls)) (IsRewritten x e)) (sym only)
-      (line-rewritten line bytes (made_of text parts choice line.bytes) refl)
+      let only : between x.first x.last e.lines ≡ line_of x e ∷ [] = one-between e.lines x.first x.last from one inside in
+      let bytes : IsLine (line_of x e).bytes =
+      All-head Whole (line_of x e) [] (subst (λ (ls : List Line). All Whole ls) only (All-drop Whole (x.first - 1) (take x.last e.lines) (All-take Whole x.last e.lines whole))) in
+      subst (λ (ls : List Line). IfOk (made false form x begun (each (made_of text parts choice) ls)) (IsRewritten choice x e)) (sym only)
+      (line-rewritten bytes (made_of text parts choice (line_of x e).bytes) refl)
 
 making-made : (P : Outcome → Type 0) (r : Result Outcome Fault) → IfOk r P → OnMade P (making r)
 making-made P (Ok o) h = h
@@ -75,11 +75,11 @@ making-made P (Err f) h = tt
 
 -- `s` of one line
 pub substitute-rewrites : (pattern : Option (List ℕ)) (replacement : Option (List Part)) (choice : Which) (form : Option Form) (x : Span) (e : editor.State) → 1 ≤ x.first →
-    x.last ≡ x.first → x.first ≤ length e.lines → AreWhole e.lines → OnMade (IsRewritten x e) (making (substitute false pattern replacement choice form x e))
+    x.last ≡ x.first → x.first ≤ length e.lines → AreWhole e.lines → OnMade (IsRewritten choice x e) (making (substitute false pattern replacement choice form x e))
 substitute-rewrites pattern replacement choice form x e from one inside whole =
-    making-made (IsRewritten x e) (substitute false pattern replacement choice form x e)
-    (IfOk-bind (λ (_ : List Part). Unit {0}) (IsRewritten x e) (used_replacement false replacement e) _ (always (used_replacement false replacement e))
-    (λ parts _. IfOk-bind (λ (_ : List ℕ). Unit {0}) (IsRewritten x e) (used_pattern pattern e) _ (always (used_pattern pattern e))
+    making-made (IsRewritten choice x e) (substitute false pattern replacement choice form x e)
+    (IfOk-bind (λ (_ : List Part). Unit {0}) (IsRewritten choice x e) (used_replacement false replacement e) _ (always (used_replacement false replacement e))
+    (λ parts _. IfOk-bind (λ (_ : List ℕ). Unit {0}) (IsRewritten choice x e) (used_pattern pattern e) _ (always (used_pattern pattern e))
     (λ text _. range-rewritten text parts choice form x e from one inside whole)))
 
 -- A RANGE

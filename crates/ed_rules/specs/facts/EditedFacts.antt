@@ -161,13 +161,9 @@ changing text = record { from = at name.first_address; to = at name.second_addre
 abbrev pub joining : Edit
 joining = record { from = at name.first_address; to = at name.second_address; fresh = Some ((λ pattern. None) ∷ []) }
 
--- `s` of one line: it gives way to what comes of it, of which nothing is known; where it may be split, not even how many lines these are
-abbrev pub rewriting : (splits : Bool) → Edit
-rewriting splits = record {
-  from = at name.first_address;
-  to = at name.second_address;
-  fresh = if splits then None else Some ((λ pattern. None) ∷ []);
-}
+-- `s` of one line: it gives way to what comes of it
+abbrev pub rewriting : (fresh : Option (List Fresh)) → Edit
+rewriting fresh = record { from = at name.first_address; to = at name.second_address; fresh = fresh }
 
 -- after the line x none gives way to others
 abbrev pub adding : (x : ℕ) → (fresh : Option (List Fresh)) → Edit

@@ -1,26 +1,38 @@
 -- The edit of a command in parts, as the calls take it: the lines that give way, and what is known of each pattern in the new ones.
 use Rattle.std.specs.Prelude.{ℕ, ◌==◌, pos, Bool, true, false, ◌&&◌, ◌||◌, not, nat_eq, List, [], ◌∷◌, ◌++◌, map, flat_map, Option, Some, None, if◌then◌else◌}
 use Rattle.std.specs.List.{list_all, list_any, filter}
+use Rattle.bre_parse.specs.Bre.{bre_tree}
 use Rattle.zones.specs.Name as name
 use Rattle.zones.specs.Zone.{Bounds}
 use Rattle.ed_rules.specs.declared.line_facts.new_lines.NewLines.{NewLines}
-use Rattle.ed_rules.specs.declared.line_facts.new_lines.NewLines.TheVariants.{Gone, Entered, Copied, One, Any}
+use Rattle.ed_rules.specs.declared.line_facts.new_lines.NewLines.TheVariants.{Gone, Entered, Copied, Rewritten, One, Any}
 use Rattle.ed_rules.specs.declared.line_facts.new_lines.Tested.{Tested}
+use Rattle.ed_rules.specs.declared.line_facts.rewritten.RewrittenLine.{RewrittenLine}
 use Rattle.ed_rules.specs.declared.line_facts.edited.Look.{Look}
 use Rattle.ed_rules.specs.declared.line_facts.edited.Kind.{Kind}
 use Rattle.ed_rules.specs.declared.line_facts.edited.Kind.TheVariants.{Staying, Before, After, Carried, Spared}
-use Rattle.ed_rules.specs.facts.Facts.{LineFact, Stretch, Facts, Point, same_text, at, point, end, le, below, is_clear, tells, told}
+use Rattle.ed_rules.specs.facts.Facts.{LineFact, Stretch, Facts, Point, same_text, at, point, end, le, below, is_clear, told}
 use Rattle.ed_rules.specs.facts.CarriedFacts.{stretch_carried}
+use Rattle.ed_rules.specs.facts.RewrittenLine.{matched_at, left_by}
 use Rattle.ed_rules.specs.facts.SubstitutedFacts.{is_spared}
 use Rattle.ed_rules.specs.facts.EditedFacts.{Fresh, Between, edit_of, is_free, is_free_before_last, is_single, told_fact, entered_line}
 
 -- NEW LINES
+
+-- what is known of the line that `s` makes
+abbrev pub fresh_left : RewrittenLine → Fresh
+fresh_left line = left_by (bre_tree line.replaced) line.heads.items line.matched.items
+
+abbrev pub fresh_if : Option RewrittenLine → Fresh
+fresh_if None = λ pattern. None
+fresh_if (Some line) = fresh_left line
 
 -- what is known of the lines that take the place of others
 abbrev pub fresh_of : NewLines → Option (List Fresh)
 fresh_of Gone = Some []
 fresh_of (Entered text) = Some (map entered_line text.now)
 fresh_of (Copied old) = Some (told old.now.zone old.now.facts name.second_address ∷ [])
+fresh_of (Rewritten line) = Some (fresh_left line.now ∷ [])
 fresh_of One = Some ((λ pattern. None) ∷ [])
 fresh_of Any = None
 
@@ -67,7 +79,7 @@ clear_of pattern facts = filter (λ s. same_text s.pattern pattern) facts.clear
 -- the patterns that the line which gives way is known to match, if it is one
 abbrev pub matched_in : Bounds → Facts → Between → (patterns : List (List ℕ)) → List (List ℕ)
 matched_in zone facts gap patterns =
-    if is_single zone (edit_of gap None) then filter (λ q. tells zone facts gap.from.name q true) patterns else []
+    if is_single zone (edit_of gap None) then matched_at zone facts gap.from.name patterns else []
 
 -- WHAT IS LEFT OF EACH PATTERN
 

@@ -6,6 +6,7 @@ ghost use Rattle.zones.specs.Name as name;
 ghost use Rattle.zones.specs.Name.{mark};
 ghost use Rattle.ed_rules.specs.facts.Facts.{at, point_at, below, is_clear, told, are_opposite, differ};
 ghost use Rattle.ed_rules.specs.facts.EditedFacts.{edit_of, puts_in, is_single, stays, told_fact, edited};
+ghost use Rattle.ed_rules.specs.facts.RewrittenLine.{matched_at};
 ghost use Rattle.ed_rules.specs.facts.NewLines.{fresh_of, clear_of, matched_in, look_at, is_clear_of, is_outside_by, is_joined_by, is_kept_by, is_left, left_from, left_of, last_left, all_left, edited_by};
 ghost use Rattle.ed_rules.specs.FactsAfter.{stays_marked, letters_that_stay};
 
@@ -216,6 +217,25 @@ impl LineFacts {
         })
     }
 
+    /// The patterns that the line x is known to match.
+    pub(crate) fn matched_at(
+        &self,
+        alloc: Global,
+        zone: &Zone,
+        x: Name,
+        patterns: &Texts,
+    ) -> Result<Vec<Bytes>, AllocError>
+        ensures value { IfOk result (λ same. same.items ≡ matched_at zone.now self.now x patterns.now) }
+    {
+        let mut same = Vec::new(alloc);
+        for pattern in patterns.members() {
+            if self.tell(zone, x, pattern.as_slice(), true) {
+                same.push(pattern.try_copy()?)?;
+            }
+        }
+        Ok(same)
+    }
+
     /// The patterns that the line which gives way is known to match, if it is one.
     fn matched_in(
         &self,
@@ -226,16 +246,11 @@ impl LineFacts {
     ) -> Result<Vec<Bytes>, AllocError>
         ensures value { IfOk result (λ same. same.items ≡ matched_in zone.now self.now gap.now patterns.now) }
     {
-        let mut same = Vec::new(alloc);
-        if !gap.is_single(zone) {
-            return Ok(same);
+        if gap.is_single(zone) {
+            self.matched_at(alloc, zone, gap.from, patterns)
+        } else {
+            Ok(Vec::new(alloc))
         }
-        for pattern in patterns.members() {
-            if self.tell(zone, gap.from, pattern.as_slice(), true) {
-                same.push(pattern.try_copy()?)?;
-            }
-        }
-        Ok(same)
     }
 
     /// Whether it is known that no line between two places matches one of these patterns.

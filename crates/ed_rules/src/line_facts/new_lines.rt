@@ -8,6 +8,7 @@ ghost use Rattle.std.specs.Option.{is_some};
 ghost use Rattle.ed_rules.specs.facts.EditedFacts.{entered_line};
 ghost use Rattle.ed_rules.specs.facts.NewLines.{fresh_of, is_yes, tested, tested_by};
 
+use crate::line_facts::rewritten::RewrittenLine;
 use crate::state::Old;
 use bre_match::Searcher;
 use bre_parse::Bre;
@@ -25,6 +26,8 @@ pub(crate) enum NewLines<'a> {
     Entered(&'a Text),
     /// One like the line of the second address.
     Copied(&'a Old),
+    /// The one that `s` makes of another.
+    Rewritten(&'a RewrittenLine),
     /// One, of which nothing is known.
     One,
     /// Any number of them, of which nothing is known.
@@ -130,6 +133,7 @@ impl NewLines<'_> {
             NewLines::Copied(old) => Ok(test_line(
                 old.facts.told(&old.zone, Name::SECOND_ADDRESS, pattern),
             )),
+            NewLines::Rewritten(line) => Ok(test_line(line.told(alloc, pattern)?)),
             NewLines::One => Ok(test_line(None)),
             NewLines::Any => Ok(Tested {
                 free: false,
