@@ -1,8 +1,8 @@
 //! Arithmetic on single bounds. Sums are made in 128 bits where they could be too large, and then clipped.
 
-ghost use Rattle.std.specs.Prelude.{◌≡◌, ◌+ℤ◌, ◌≤ℤ◌, pos, negsuc, Some};
+ghost use Rattle.std.specs.Prelude.{◌≡◌, ◌+ℤ◌, Some};
 ghost use Rattle.zones.specs.Limits.{clamp, clamp_side};
-ghost use Rattle.zones.specs.Bound.{IsKept, clip, clip_bound, tighten, raise, lower};
+ghost use Rattle.zones.specs.Bound.{clip, clip_bound, tighten, raise, lower};
 
 use crate::entry::{Entry, lesser};
 
@@ -58,29 +58,32 @@ pub(crate) fn clip_bound(number: Option<i64>) -> Entry
     }
 }
 
-/// The sum of two bounds and of an offset that is clamped. It fits in 64 bits.
-fn sum_of_three(to: i64, c: i64, from: i64) -> i64
-    requires to_kept { IsKept (Some to) }
-    requires from_kept { IsKept (Some from) }
-    requires c_not_low { negsuc 3999999999999999 ≤ℤ c }
-    requires c_not_high { c ≤ℤ pos 4000000000000000 }
+fn sum_of_three(to: i64, c: i64, from: i64) -> i128
     ensures value { result ≡ to +ℤ c +ℤ from }
 {
-    to + c + from
+    i128::from(to) + i128::from(c) + i128::from(from)
 }
 
-/// The lesser of a direct bound and of that by a way of three parts, of which the middle one is clamped.
+/// The sum of three numbers, as a zone keeps it.
+fn clip_sum(to: i64, c: i64, from: i64) -> Entry
+    ensures value { result ≡ clip (to +ℤ c +ℤ from) }
+{
+    // Only an offset near the ends of its range needs 128 bits, which take more instructions.
+    if let Some(first) = to.checked_add(c) {
+        if let Some(way) = first.checked_add(from) {
+            return clip(i128::from(way));
+        }
+    }
+    clip(sum_of_three(to, c, from))
+}
+
+/// The lesser of a direct bound and of that by a way of three parts.
 pub(crate) fn tighten(direct: Entry, to: i64, c: i64, from: i64) -> Entry
-    requires to_kept { IsKept (Some to) }
-    requires from_kept { IsKept (Some from) }
-    requires c_not_low { negsuc 3999999999999999 ≤ℤ c }
-    requires c_not_high { c ≤ℤ pos 4000000000000000 }
     ensures value { result ≡ tighten direct (Some to) c (Some from) }
 {
-    let way = sum_of_three(to, c, from);
     // It is kept, and so isn't clipped once more.
     let _kept = direct.get();
-    lesser(direct, clip(i128::from(way)))
+    lesser(direct, clip_sum(to, c, from))
 }
 
 /// The bound plus a number; any, where either is unbounded.

@@ -2,7 +2,7 @@
 //! would cost far more than the few bounds that most steps change. Of names from `most` on nothing
 //! is known, and a step on earlier ones leaves it so.
 
-ghost use Rattle.std.specs.Prelude.{◌≡◌, ◌≢◌, ℕ, ◌<◌, ◌≤◌, ◌≤ℤ◌, pos, negsuc, Some, None, length, get_or};
+ghost use Rattle.std.specs.Prelude.{◌≡◌, ◌≢◌, ℕ, ◌<◌, ◌≤◌, Some, None, length, get_or};
 ghost use Rattle.zones.specs.Bound.{IsKept, tighten, raise, lower};
 ghost use Rattle.zones.specs.Zone.{bound};
 ghost use Rattle.zones.specs.Steps.{any_bound, any_zone, after_guard, after_set, after_shift, after_forget, after_put};
@@ -11,7 +11,7 @@ ghost use Rattle.zones.specs.Reach.{AreUnknown};
 ghost use Rattle.zones.specs.RowWrites.{IsRowWritten};
 
 use crate::entry::Entry;
-use crate::number::{clamped, clip_bound, lower, raise, tighten};
+use crate::number::{clip_bound, lower, raise, tighten};
 use crate::reach::any_of;
 
 /// The bound of the pair (p, q) lies at `32 * p + q`.
@@ -96,9 +96,6 @@ fn write_cross(
 fn tighten_row(table: &mut Table, most: usize, p: usize, to: i64, c: i64, row: &Line)
     requires most_in_range { most ≤ 32 }
     requires p_in_range { p < 32 }
-    requires to_kept { IsKept (Some to) }
-    requires c_not_low { negsuc 3999999999999999 ≤ℤ c }
-    requires c_not_high { c ≤ℤ pos 4000000000000000 }
     requires kept { (q : ℕ) → q < 32 → IsKept (bound table.old p q) }
     requires row_ends { (q : ℕ) → most ≤ q → q < 32 → get_or row.now q None ≡ None }
     ensures size { length table.new ≡ 1024 }
@@ -140,13 +137,11 @@ pub(crate) fn guard_table(table: &mut Table, most: usize, x: usize, y: usize, c:
 {
     let mut row = [Entry::any(); 32];
     read_row(&mut row, table, most, y);
-    // No bound differs after a step by the clamped offset, with which each sum fits in 64 bits.
-    let near = clamped(i128::from(c));
     for p in 0..most {
         // Only the row itself is read here, and that of `y` as it was before the step. A row with no
         // bound up to `x` stays, since no way leads on.
         if let Some(to) = table[32 * p + x].get() {
-            tighten_row(table, most, p, to, near, &row);
+            tighten_row(table, most, p, to, c, &row);
         }
     }
 }

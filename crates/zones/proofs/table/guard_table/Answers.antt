@@ -1,10 +1,8 @@
-use Rattle.std.proofs.Common.{◌≡◌, ◌<◌, None, get_or, w64, FitsSigned, arith, ◌∙◌, ap, refl, sym, rules}
+use Rattle.std.proofs.Common.{◌≡◌, ◌<◌, None, get_or, w64, FitsSigned, arith, ◌∙◌, refl, sym, rules}
 use Rattle.std.proofs.lemmas.List.{get_or_default, get_or-replicate}
 use Rattle.std.proofs.lemmas.Int.{to_z-of_z}
 use Rattle.zones.specs.Zone.{bound}
 use Rattle.zones.specs.Steps.{after_guard}
-use Rattle.zones.specs.Limits.{clamp}
-use Rattle.zones.proofs.Clamps.{after_guard-clamp}
 use Rattle.zones.proofs.Kept.{IsKept-bound}
 use Rattle.zones.proofs.ReachLemmas.{any_bound-beside}
 use Rattle.zones.proofs.RowWrites.{table-begun, table-next, table-skipped, table-reached}
@@ -35,13 +33,12 @@ loop-p-preserved c =
     let hp : p < 32 = omega arith in
     let x = c.args.x in
     let y = c.args.y in
-    let number = c.clamped-near.result in
+    let number = c.args.c in
     let hx : x < 32 = omega arith in
     let before = c.loop-p.invariant.rest p (omega arith) hp in
-    let near_fits : FitsSigned w64 c.clamped-near.result = search rules in
-    let so_far = simp (to_z-of_z _ _ near_fits) at c.loop-p.invariant in
+    let so_far = simp (to_z-of_z _ _ c.ranges.c) at c.loop-p.invariant in
     let read : c.get.result ≡ bound table p x = c.get.ensures.value ∙ get_or_default table _ _ None (omega (arith, c.loop-p.invariant.size)) in
-    simp (to_z-of_z _ _ near_fits)
+    simp (to_z-of_z _ _ c.ranges.c)
     (elim c.match-get.branch [
       | in-Some w ↦
           let to_fits : FitsSigned w64 w.in-Some.to = search rules in
@@ -49,7 +46,7 @@ loop-p-preserved c =
           (table-next old table w.tighten_row.new.table _ p hp so_far w.tighten_row.ensures.size
           (guard_row-tightened old table w.tighten_row.new.table c.read_row.new.row x y p w.in-Some.to number hx before (sym read ∙ w.in-Some.is) c.read_row.ensures.each
           (λ q hq. w.tighten_row.ensures.here q hq
-          ∙ tighten-same (bound table p q) (get_or c.read_row.new.row q None) _ w.in-Some.to _ number (to_z-of_z w64 w.in-Some.to to_fits) (to_z-of_z _ _ near_fits)))
+          ∙ tighten-same (bound table p q) (get_or c.read_row.new.row q None) _ w.in-Some.to _ number (to_z-of_z w64 w.in-Some.to to_fits) (to_z-of_z _ _ c.ranges.c)))
           (λ a b n ha hb. w.tighten_row.ensures.others a b n ha hb))
       | in_default w ↦ rw w.table-is
           (table-skipped old table _ p hp so_far
@@ -61,14 +58,9 @@ unfolding after_guard
 returns c =
     let old = c.args.table.now in
     let x = c.args.x in
-    let y = c.args.y in
-    let near = c.clamped-near.result in
-    let near_fits : FitsSigned w64 near = search rules in
-    let is : near ≡ clamp c.args.c = search rules in
     record {
-      exact = table-reached old c.loop-p.table _ c.loop-p.p (simp (to_z-of_z _ _ near_fits) at c.loop-p.invariant)
+      exact = table-reached old c.loop-p.table _ c.loop-p.p (simp (to_z-of_z _ _ c.ranges.c) at c.loop-p.invariant)
           (λ a b high ha hb.
-          guard_row-left old old x y a near (omega arith) (λ q. IsKept-bound old a q c.requires.kept) (λ d hd. refl)
-          (c.requires.unknown.row a x (omega (arith, high)) ha (omega arith) ∙ any_bound-beside a x (omega (arith, high))) b hb)
-          ∙ ap (after_guard old x y) is ∙ after_guard-clamp old x y c.args.c c.requires.kept;
+          guard_row-left old old x c.args.y a c.args.c (omega arith) (λ q. IsKept-bound old a q c.requires.kept) (λ d hd. refl)
+          (c.requires.unknown.row a x (omega (arith, high)) ha (omega arith) ∙ any_bound-beside a x (omega (arith, high))) b hb);
     }
