@@ -1,5 +1,5 @@
 -- The rule of `s` (XCU ed, "Substitute Command"): what it needs, and what it leaves.
-use Rattle.std.specs.Prelude.{ℕ, pos, negsuc, Bool, true, false, ◌&&◌, ◌||◌, not, nat_eq, List, Option, Some, None, Result, Ok, Err, if◌then◌else◌}
+use Rattle.std.specs.Prelude.{ℕ, ℤ, pos, negsuc, Bool, true, false, ◌&&◌, ◌||◌, not, nat_eq, List, Option, Some, None, Result, Ok, Err, if◌then◌else◌}
 use Rattle.std.specs.List.{list_all, list_any}
 use Rattle.ed_base.specs.declared.fault.Fault.{Fault}
 use Rattle.ed_base.specs.declared.fault.Fault.TheVariants as fault
@@ -119,18 +119,18 @@ abbrev pub marks_substituted : (splits : Bool) → State → State
 marks_substituted splits s = for_each_sure (mark_substituted s.zone splits) s.marks 26 s
 
 -- where lines may be split: there may be more of them; the current one isn't before the second address, and as far from the last
--- one as that was
-unfoldable pub current_split : (before : Bounds) → Bounds → Bounds
-current_split before zone =
+-- one as that was, so by the same bounds in both ways
+unfoldable pub current_split : (below above : Option ℤ) → Bounds → Bounds
+current_split below above zone =
     guarded_by
     (guarded_by
     (after_guard (after_forget (after_shift zone last_line (Some (pos 0)) None) current_line) second_address current_line (pos 0))
-    current_line last_line (greatest before second_address last_line))
-    last_line current_line (greatest before last_line second_address)
+    current_line last_line below)
+    last_line current_line above
 
 -- the current line after a substitution in each of the lines
 abbrev pub current_substituted : (splits : Bool) → (before : Bounds) → Bounds → Bounds
-current_substituted true before zone = current_split before zone
+current_substituted true before zone = current_split (greatest before second_address last_line) (greatest before last_line second_address) zone
 current_substituted false before zone = after_set zone current_line second_address (pos 0)
 
 -- a substitution in each of the lines

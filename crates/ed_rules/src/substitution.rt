@@ -2,11 +2,10 @@
 
 ghost use Rattle.std.specs.Prelude.{◌≡◌, pos, None, Some, IfOk, OnOk};
 ghost use Rattle.std.specs.List.{list_all, list_any};
-ghost use Rattle.zones.specs.Name.{last_line, current_line, second_address};
-ghost use Rattle.zones.specs.Steps.{after_shift, after_forget, after_guard};
-ghost use Rattle.ed_rules.specs.Pieces.{guarded_by};
+ghost use Rattle.zones.specs.Name.{last_line};
+ghost use Rattle.zones.specs.Steps.{after_shift};
 ghost use Rattle.ed_rules.specs.StandsFor.{ends_line};
-ghost use Rattle.ed_rules.specs.Substituting.{kind_of, replacement_used, pattern_used, takes_first, is_known_line, matches_each, is_sure_to_match, takes_all, is_match_among, is_matched_among, matches_some, is_sure_of_some, current_within, surely_substituted, partly_substituted, substituted};
+ghost use Rattle.ed_rules.specs.Substituting.{kind_of, replacement_used, pattern_used, takes_first, is_known_line, matches_each, is_sure_to_match, takes_all, is_match_among, is_matched_among, matches_some, is_sure_of_some, current_split, current_within, surely_substituted, partly_substituted, substituted};
 ghost use Rattle.ed_rules.specs.Reaching.{Reaches};
 
 use crate::addresses::choice_matches_always;
@@ -73,13 +72,9 @@ fn allow_more_lines(zone: &mut Zone)
 
 /// Lines may be split, and each is substituted in: the current line is as far from the last one as the second address was.
 /// So the second address less the last line was at most `below`, and the last line less the second address at most `above`.
+#[tactic(auto, unfolding(crate::specs::Substituting::current_split))]
 fn set_current_split(zone: &mut Zone, below: Option<i64>, above: Option<i64>)
-    ensures exact { zone.new ≡
-        guarded_by
-        (guarded_by
-        (after_guard (after_forget (after_shift zone.old last_line (Some (pos 0)) None) current_line) second_address current_line (pos 0))
-        current_line last_line below)
-        last_line current_line above }
+    ensures exact { zone.new ≡ current_split below above zone.old }
 {
     allow_more_lines(zone);
     zone.forget(Name::CURRENT_LINE);
@@ -253,7 +248,7 @@ impl State {
     }
 
     /// A substitution in each of the lines.
-    #[tactic(auto, unfolding(crate::specs::Substituting::surely_substituted, crate::specs::Substituting::current_split))]
+    #[tactic(auto, unfolding(crate::specs::Substituting::surely_substituted))]
     fn substitute_surely(&mut self, listed: bool, start: &State) -> Result<(), AllocError>
         ensures exact { OnOk result (self.new ≡ surely_substituted listed start.now self.old) }
     {

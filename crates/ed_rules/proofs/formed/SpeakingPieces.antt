@@ -198,14 +198,14 @@ Inner-moved_either marks before h =
 
 -- SUBSTITUTION
 
-Inner-current_split : (marks : List Bool) (before zone : Bounds) → Inner marks zone → Inner marks (current_split before zone)
+Inner-current_split : (marks : List Bool) (below above : Option ℤ) (zone : Bounds) → Inner marks zone → Inner marks (current_split below above zone)
 unfolding current_split
-Inner-current_split marks before zone h =
+Inner-current_split marks below above zone h =
     Inner-guarded_by marks _ 2 1 _ refl refl
     (Inner-guarded_by marks _ 1 2 _ refl refl (Inner-guard marks _ 4 1 _ refl refl (Inner-forget marks _ 1 (Inner-shift marks zone 2 _ _ refl h))))
 
 pub Inner-current_substituted : (splits : Bool) (marks : List Bool) (before zone : Bounds) → Inner marks zone → Inner marks (current_substituted splits before zone)
-Inner-current_substituted true marks before zone h = Inner-current_split marks before zone h
+Inner-current_substituted true marks before zone h = Inner-current_split marks _ _ zone h
 Inner-current_substituted false marks before zone h = Inner-set marks zone 1 4 _ refl refl h
 
 pub Inner-current_within : (splits : Bool) (marks : List Bool) (zone : Bounds) → Inner marks zone → Inner marks (current_within splits zone)

@@ -324,7 +324,7 @@ module _ (text : List ℕ) (splits : Bool) (s : State) (e : editor.State) (x : S
 
   -- where lines may be split, the current line is as far from the last one as the second address was
   pub exchanged-split : (current : ℕ) → current + 1 ≡ x.first + length new →
-      Replaced s (with_zone (current_split s.zone (marks_substituted splits s).zone) (marks_substituted splits s)) (parts.replaced x.first x.last new e.lines) current
+      Replaced s (with_zone (current_split (bound s.zone 4 2) (bound s.zone 2 4) (marks_substituted splits s).zone) (marks_substituted splits s)) (parts.replaced x.first x.last new e.lines) current
   unfolding current_split
   exchanged-split current is =
       let v₀ : Numbers = r.spans.numbers in
@@ -350,7 +350,7 @@ module _ (text : List ℕ) (splits : Bool) (s : State) (e : editor.State) (x : S
       Holds-after_guard _ 4 1 (pos 0) v1 (omega arith) (omega arith) (Holds-after_forget _ 1 v2 v1 h2 (updated-other v2 1 (pos current))) (omega (arith, ints)) in
       let below : v₀ 4 -ℤ v₀ 2 ≡ v1 1 -ℤ v1 2 = omega (arith, ints) in
       let above : v₀ 2 -ℤ v₀ 4 ≡ v1 2 -ℤ v1 1 = omega (arith, ints) in
-      HoldsBy-exchanged (current_split s.zone t.zone) current (omega arith)
+      HoldsBy-exchanged (current_split (bound s.zone 4 2) (bound s.zone 2 4) t.zone) current (omega arith)
       (Holds-guarded_by _ 2 1 (bound s.zone 2 4) v1 (omega arith) (omega arith)
       (Holds-guarded_by _ 1 2 (bound s.zone 4 2) v1 (omega arith) (omega arith) h1 (subst (λ (d : ℤ). Obeys d (bound s.zone 4 2)) below (Obeys-bound s.zone 4 2 v₀ (omega arith) (omega arith) b₀.holds)))
       (subst (λ (d : ℤ). Obeys d (bound s.zone 2 4)) above (Obeys-bound s.zone 2 4 v₀ (omega arith) (omega arith) b₀.holds)))

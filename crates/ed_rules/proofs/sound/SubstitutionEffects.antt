@@ -12,7 +12,7 @@ use Rattle.ed_base.specs.declared.fault.Fault.TheVariants as fault
 use Rattle.ed_base.specs.Buffer.{Line, plain_line, has_letter}
 use Rattle.ed_base.specs.Lines.{newline, IsLine}
 use Rattle.ed_base.specs.Parts as parts
-use Rattle.zones.specs.Zone.{Numbers}
+use Rattle.zones.specs.Zone.{Numbers, bound}
 use Rattle.zones.specs.Known.{known}
 use Rattle.zones.proofs.Known.{known-true}
 use Rattle.zones.specs.Steps.{after_set}
@@ -200,7 +200,7 @@ module _ (text : List ℕ) (replacement : List Part) (choice : Which) (s : State
           | true ↦ λ k.
               let by = exchanges true (λ z. absurd cc) in
               let q = exchanged-split text true s e x r followed possible new.0 by current (omega arith) in
-              altered-aside listed start s (with_zone (current_split s.zone (marks_substituted true s).zone) (marks_substituted true s)) begun e st r.spans.stands.remembered r.spans.stands.past q.aside lines current q.numbers q.buffer
+              altered-aside listed start s (with_zone (current_split (bound s.zone 4 2) (bound s.zone 2 4) (marks_substituted true s).zone) (marks_substituted true s)) begun e st r.spans.stands.remembered r.spans.stands.past q.aside lines current q.numbers q.buffer
           | false ↦ λ k.
               let by = exchanges false (λ z. allows-plain s.replacements replacement kind k) in
               let size = by.same refl in
