@@ -597,6 +597,46 @@ fn stretches_that_others_say_are_left_out(rt: HostRuntime) -> Result<(), Fail> {
     Ok(())
 }
 
+#[test]
+fn stretches_that_never_hold_a_line_are_left_out(rt: HostRuntime) -> Result<(), Fail> {
+    // Line 2 may be on either side of each letter, so it isn't known any more after some time that `s` comes after `r`. Each line that is put
+    // in could be between them, and none could be between `s` and `r`.
+    let two = stretches_after(
+        rt.alloc(),
+        b"rs",
+        b"2a\n-\n.\n2a\n-\n.\n2a\n-\n.\n2a\n-\n.\n",
+    )?;
+    assert!(rt; two == Some(4));
+    Ok(())
+}
+
+/// Four to nine lines. `y` matches A, and comes before the last line.
+fn begin_at_one(alloc: Global) -> Result<State, AllocError> {
+    let mut state = state_of(alloc, lines!(4, Some(9)))?;
+    state.marks.add(Letter::at(24));
+    state.zone.guard(Name::ZERO, at(b'y'), -1);
+    state.zone.guard(at(b'y'), Name::LAST_LINE, -1);
+    state.follows = true;
+    add_line(&mut state, b'y', b"A", true)?;
+    Ok(state)
+}
+
+#[test]
+fn lines_that_come_before_the_next_one_are_known(rt: HostRuntime) -> Result<(), Fail> {
+    // Of both texts it is known whether a line between matches A, since none was between.
+    for (script, clear) in [
+        (b"'y+kx\n'ya\n-\n.\n", true),
+        (b"'y+kx\n'ya\nA\n.\n", false),
+    ] {
+        let state = begin_at_one(rt.alloc())?;
+        let Some(after) = after_in(rt.alloc(), state, script)? else {
+            return Err(Fail::new());
+        };
+        assert!(rt; !answers_otherwise(&after, Asked::Clear(b'y', b'x', b"A", clear)));
+    }
+    Ok(())
+}
+
 /// What is known of the last new line after a script, beside a letter whose line alone matches `r`; A and B are watched for.
 fn last_new(
     alloc: Global,

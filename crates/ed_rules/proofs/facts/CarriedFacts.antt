@@ -9,7 +9,7 @@ use Rattle.zones.specs.Zone.{Bounds, Numbers}
 use Rattle.ed_base.specs.Buffer.{Line, plain_line}
 use Rattle.ed_base.specs.Parts.{carried}
 use Rattle.ed_syntax.specs.meaning.Values.{matches, matches_line}
-use Rattle.ed_rules.specs.facts.Facts.{LineFact, Stretch, Facts, FactsHold, LineFactHolds, StretchHolds, value_of, at, point, end, le, below, is_clear, told}
+use Rattle.ed_rules.specs.facts.Facts.{LineFact, Stretch, Facts, FactsHold, LineFactHolds, StretchHolds, value_of, at, point, end, le, below, may_hold_lines, is_clear, told}
 use Rattle.ed_rules.specs.facts.EditedFacts.{stretches, told_fact}
 use Rattle.ed_rules.specs.facts.CarriedFacts.{carried_to, stretch_carried, last_carried, carried_facts}
 use Rattle.ed_rules.specs.facts.CarriedHolds.{GoesWith, IsCarried}
@@ -198,7 +198,7 @@ module _ (zone : Bounds) (facts : Facts) (kept : List ℕ) (number after : Numbe
       let ys = py.is in
       let xa = px.after_is in
       let ya = py.after_is in
-      let u = and_parts (not (eqb q.after q.before)) _ k in
+      let u = and_parts (may_hold_lines zone (point q.after) (point q.before)) _ k in
       let one : value_of number (at 3) ≡ pos (a + 1) = (let e = s.first_is in omega (arith, ints)) in
       let two : value_of number (at 4) ≡ pos b = (let e = s.second_is in omega (arith, ints)) in
       let three : value_of number (at 5) ≡ pos t = (let e = s.target_is in omega (arith, ints)) in

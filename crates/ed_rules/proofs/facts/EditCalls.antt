@@ -11,7 +11,7 @@ use Rattle.ed_syntax.specs.meaning.Values.{matches}
 use Rattle.ed_rules.specs.declared.line_facts.new_lines.Tested.{Tested}
 use Rattle.ed_rules.specs.declared.line_facts.edited.Kind.TheVariants.{Staying, Before, After, Carried, Spared}
 use Rattle.ed_rules.specs.declared.line_facts.edited.Look.{Look}
-use Rattle.ed_rules.specs.facts.Facts.{LineFact, Stretch, Facts, Point, same_text, at, point, end, le, below, is_clear, tells, told}
+use Rattle.ed_rules.specs.facts.Facts.{LineFact, Stretch, Facts, Point, same_text, at, point, end, le, below, may_hold_lines, is_clear, tells, told}
 use Rattle.ed_rules.specs.facts.CarriedFacts.{stretch_carried, last_carried, carried_facts}
 use Rattle.ed_rules.specs.facts.SubstitutedFacts.{is_spared, stretch_spared, substituted_facts}
 use Rattle.ed_rules.specs.facts.EditedFacts.{Fresh, Between, edit_of, none_match, all_but_last, is_no, is_free, is_free_before_last, is_single, is_outside, stretch_stays, clear_before, clear_after, stretches, told_fact, of_last, of_last_known, last_edited, edited, entered_line}
@@ -93,7 +93,7 @@ module _ (zone : Bounds) (facts : Facts) (gap : Between) (fresh : Option (List F
       let o = outside-is x y in
       let b = own-clear zone facts x gap.from p in
       let c = own-clear zone facts gap.to y p in
-      λ i. not (after == before) && ((a i && (free || o i)) || (free && (below zone x gap.from && (below zone gap.to y && (b i && c i)))))
+      λ i. may_hold_lines zone x y && ((a i && (free || o i)) || (free && (below zone x gap.from && (below zone gap.to y && (b i && c i)))))
 
   before-is : (p : List ℕ) (after before : ℕ) → clear_before zone facts (edit_of gap fresh) (record { after = after; before = before; pattern = p }) ≡
       is_left Before zone facts gap same (look_at facts fresh p) after before
@@ -112,14 +112,14 @@ module _ (zone : Bounds) (facts : Facts) (gap : Between) (fresh : Option (List F
       let all = own-clear zone facts (at 0) (point end) p in
       let some = own-clear zone facts x y p in
       let aside : Bool = (below zone y (at 3) && le zone y (at 5) (pos 0)) || (below zone (at 4) x && below zone (at 5) x) in
-      λ i. not (after == before) && (all i || (some i && aside))
+      λ i. may_hold_lines zone x y && (all i || (some i && aside))
 
   spared-is : (possible : List (List ℕ)) (p : List ℕ) (after before : ℕ) → stretch_spared zone facts possible [] (record { after = after; before = before; pattern = p }) ≡
       is_left Spared zone facts gap possible (look_at facts fresh p) after before
   spared-is possible p after before =
       let x : Point = point after in
       let y : Point = point before in
-      ap (λ (b : Bool). not (after == before) && (b && (le zone y (at 3) (pos 0) || (le zone (at 4) x (pos 0) || list_all (λ q. is_clear zone facts x y q) possible))))
+      ap (λ (b : Bool). may_hold_lines zone x y && (b && (le zone y (at 3) (pos 0) || (le zone (at 4) x (pos 0) || list_all (λ q. is_clear zone facts x y q) possible))))
       (own-clear zone facts x y p)
 
   -- ALL PATTERNS

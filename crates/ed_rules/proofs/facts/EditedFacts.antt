@@ -9,7 +9,7 @@ use Rattle.zones.specs.Zone.{Bounds, Numbers, Holds}
 use Rattle.ed_base.specs.Buffer.{Line}
 use Rattle.ed_base.specs.Parts.{exchanged}
 use Rattle.ed_syntax.specs.meaning.Values.{matches_line}
-use Rattle.ed_rules.specs.facts.Facts.{LineFact, Stretch, Facts, Point, FactsHold, LineFactHolds, StretchHolds, IsClear, value_of, at, point, end, le, below, is_clear, tells}
+use Rattle.ed_rules.specs.facts.Facts.{LineFact, Stretch, Facts, Point, FactsHold, LineFactHolds, StretchHolds, IsClear, value_of, at, point, end, le, below, may_hold_lines, is_clear, tells}
 use Rattle.ed_rules.specs.facts.EditedFacts.{Fresh, Edit, is_no, none_match, is_free, all_but_last, is_free_before_last, is_single, puts_in, stays, is_outside, stretch_stays, clear_before, clear_after, stretches, clear_edited, told_fact, of_last, of_last_known, last_edited, lines_edited, edited, Moves, IsLeft}
 use Rattle.ed_rules.specs.facts.EditHolds.{AreFresh, AreFreshIf, Stays, IsEdit}
 use Rattle.ed_rules.proofs.facts.FactsTold.{any-gives, any-any, point-named, le-true, is_clear-true, tells-true, differ-true}
@@ -204,7 +204,7 @@ module _ (zone : Bounds) (facts : Facts) (e : Edit) (kept : List ℕ) (number af
       let y : Point = point t.before in
       let hx : x.name < 32 = point-named t.after (p.0).0 in
       let hy : y.name < 32 = point-named t.before (p.1).0 in
-      let kept = and_parts (not (eqb t.after t.before)) _ k in
+      let kept = and_parts (may_hold_lines zone x y) _ k in
       let g = goes t.pattern in
       record {
         after_named = (p.0).0;

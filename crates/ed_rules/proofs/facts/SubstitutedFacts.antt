@@ -19,7 +19,7 @@ use Rattle.bre_parse.specs.Grammar.{pattern}
 use Rattle.bre_parse.specs.Match.{match_from}
 use Rattle.bre_parse.specs.Tree.{Tree}
 use Rattle.std.specs.Option.{is_some, option_map}
-use Rattle.ed_rules.specs.facts.Facts.{LineFact, Stretch, Facts, Point, FactsHold, LineFactHolds, StretchHolds, same_text, value_of, at, point, end, le, below, is_clear, tells}
+use Rattle.ed_rules.specs.facts.Facts.{LineFact, Stretch, Facts, Point, FactsHold, LineFactHolds, StretchHolds, same_text, value_of, at, point, end, le, below, may_hold_lines, is_clear, tells}
 use Rattle.ed_rules.specs.facts.EditedFacts.{stretches}
 use Rattle.ed_rules.specs.facts.SubstitutedFacts.{is_spared, stretch_spared, substituted_facts, Makes, MakesOfEach, IsSubstituted}
 use Rattle.ed_rules.proofs.facts.FactsTold.{any-gives, point-named, le-true, is_clear-true, tells-true}
@@ -254,7 +254,7 @@ module _ (f : Makes) (possible spared : List (List ℕ)) (made : MakesOfEach f p
       let hy : y.name < 32 = point-named t.before (p.1).0 in
       let xs = (p.0).1 in
       let ys = (p.1).1 in
-      let u = and_parts (not (eqb t.after t.before)) _ k in
+      let u = and_parts (may_hold_lines zone x y) _ k in
       let v = and_parts (is_clear zone facts x y t.pattern) _ u.1 in
       let clear = is_clear-true zone facts number old x y t.pattern v.0 hx hy s.holds s.facts_hold in
       let three = at-three in

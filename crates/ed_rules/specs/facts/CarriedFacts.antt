@@ -3,7 +3,7 @@ use Rattle.std.specs.Prelude.{ℕ, ◌+◌, ◌-◌, min, pos, Bool, ◌&&◌, �
 use Rattle.std.specs.List.{list_any}
 use Rattle.zones.specs.Name as name
 use Rattle.zones.specs.Zone.{Bounds}
-use Rattle.ed_rules.specs.facts.Facts.{LineFact, Stretch, Facts, at, point, end, le, below, is_clear, told}
+use Rattle.ed_rules.specs.facts.Facts.{LineFact, Stretch, Facts, at, point, end, le, below, may_hold_lines, is_clear, told}
 use Rattle.ed_rules.specs.facts.EditedFacts.{stretches, told_fact}
 
 -- where the line i comes to, as the lines after a up to b are carried to a place among the others
@@ -19,7 +19,7 @@ abbrev pub stretch_carried : Bounds → Facts → Stretch → Bool
 stretch_carried zone facts s =
     let x = point s.after in
     let y = point s.before in
-    not (s.after == s.before) &&
+    may_hold_lines zone x y &&
     (is_clear zone facts (at name.zero) (point end) s.pattern ||
     (is_clear zone facts x y s.pattern &&
     ((below zone y (at name.first_address) && le zone y (at name.target_address) (pos 0)) ||

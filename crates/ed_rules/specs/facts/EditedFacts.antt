@@ -6,7 +6,7 @@ use Rattle.zones.specs.Name as name
 use Rattle.zones.specs.Zone.{Bounds}
 use Rattle.zones.specs.Known.{known}
 use Rattle.ed_syntax.specs.meaning.Values.{matches}
-use Rattle.ed_rules.specs.facts.Facts.{LineFact, Stretch, Facts, Point, at, point, end, le, below, is_clear, tells, told, differ}
+use Rattle.ed_rules.specs.facts.Facts.{LineFact, Stretch, Facts, Point, at, point, end, le, below, may_hold_lines, is_clear, tells, told, differ}
 
 -- of each pattern whether a new line matches it, where that is known
 abbrev pub Fresh : Type 0
@@ -75,7 +75,7 @@ stretch_stays zone facts e patterns s =
     let x = point s.after in
     let y = point s.before in
     let free = is_free s.pattern e.fresh in
-    not (s.after == s.before) &&
+    may_hold_lines zone x y &&
     ((is_clear zone facts x y s.pattern && (free || is_outside zone facts e patterns x y)) ||
     (free && (below zone x e.from && (below zone e.to y && (is_clear zone facts x e.from s.pattern &&
     is_clear zone facts e.to y s.pattern)))))

@@ -98,6 +98,11 @@ same zone x y = le zone (at x) (at y) (pos 0) && le zone (at y) (at x) (pos 0)
 abbrev pub below : Bounds → Point → Point → Bool
 below zone x y = le zone x y (pos 0 -ℤ pos 1)
 
+-- Lines may come to be between x and y: x is known to be before y, or the zone doesn't say that there is no room for a line. Between names in
+-- the other order, or from a name to itself, nothing is worth keeping; but the lines that come between one line and the next are.
+abbrev pub may_hold_lines : Bounds → (x y : Point) → Bool
+may_hold_lines zone x y = below zone x y || not (le zone y x (pos 1))
+
 abbrev pub same_text : List ℕ → List ℕ → Bool
 same_text one other = pointwise nat_eq one other
 

@@ -11,7 +11,7 @@ use Rattle.ed_rules.specs.declared.line_facts.rewritten.RewrittenLine.{Rewritten
 use Rattle.ed_rules.specs.declared.line_facts.edited.Look.{Look}
 use Rattle.ed_rules.specs.declared.line_facts.edited.Kind.{Kind}
 use Rattle.ed_rules.specs.declared.line_facts.edited.Kind.TheVariants.{Staying, Before, After, Carried, Spared}
-use Rattle.ed_rules.specs.facts.Facts.{LineFact, Stretch, Facts, Point, same_text, at, point, end, le, below, is_clear, told}
+use Rattle.ed_rules.specs.facts.Facts.{LineFact, Stretch, Facts, Point, same_text, at, point, end, le, below, may_hold_lines, is_clear, told}
 use Rattle.ed_rules.specs.facts.CarriedFacts.{stretch_carried}
 use Rattle.ed_rules.specs.facts.RewrittenLine.{matched_at, left_by}
 use Rattle.ed_rules.specs.facts.SubstitutedFacts.{is_spared}
@@ -110,7 +110,7 @@ is_kept_by zone facts gap same look x y =
 
 -- whether the stretch between two names is left
 abbrev pub is_left : Kind → Bounds → Facts → Between → (same : List (List ℕ)) → Look → (after before : ℕ) → Bool
-is_left Staying zone facts gap same look after before = not (after == before) && is_kept_by zone facts gap same look (point after) (point before)
+is_left Staying zone facts gap same look after before = may_hold_lines zone (point after) (point before) && is_kept_by zone facts gap same look (point after) (point before)
 is_left Before zone facts gap same look after before =
     look.tested.free_before_last && (below zone (point after) gap.from && is_clear_of zone look (point after) gap.from)
 is_left After zone facts gap same look after before = below zone gap.to (point before) && is_clear_of zone look gap.to (point before)
@@ -121,7 +121,7 @@ is_left Carried zone facts gap same look after before =
       pattern = look.pattern;
     })
 is_left Spared zone facts gap same look after before =
-    not (after == before) && (is_clear_of zone look (point after) (point before) &&
+    may_hold_lines zone (point after) (point before) && (is_clear_of zone look (point after) (point before) &&
     (le zone (point before) (at name.first_address) (pos 0) || (le zone (at name.second_address) (point after) (pos 0) ||
     list_all (λ q. is_clear zone facts (point after) (point before) q) same)))
 

@@ -5,7 +5,7 @@ use Rattle.zones.specs.Name as name
 use Rattle.zones.specs.Zone.{Bounds, Numbers, Holds}
 use Rattle.ed_base.specs.Buffer.{Line}
 use Rattle.ed_syntax.specs.meaning.Values.{matches}
-use Rattle.ed_rules.specs.facts.Facts.{Stretch, Facts, FactsHold, same_text, at, point, end, le, below, is_clear, tells}
+use Rattle.ed_rules.specs.facts.Facts.{Stretch, Facts, FactsHold, same_text, at, point, end, le, below, may_hold_lines, is_clear, tells}
 use Rattle.ed_rules.specs.facts.EditedFacts.{stretches}
 
 -- the line x surely isn't changed: it isn't one of those, or matches none of the patterns that may be looked for
@@ -19,7 +19,7 @@ abbrev pub stretch_spared : Bounds → Facts → (possible spared : List (List �
 stretch_spared zone facts possible spared s =
     let x = point s.after in
     let y = point s.before in
-    not (s.after == s.before) && (is_clear zone facts x y s.pattern &&
+    may_hold_lines zone x y && (is_clear zone facts x y s.pattern &&
     (list_any (λ p. same_text p s.pattern) spared || (le zone y (at name.first_address) (pos 0) ||
     (le zone (at name.second_address) x (pos 0) ||
     list_all (λ q. is_clear zone facts x y q) possible))))

@@ -10,7 +10,7 @@ ghost use Rattle.ed_rules.specs.facts.NewLines.{left_of, last_aside, carried_by}
 ghost use Rattle.ed_rules.specs.FactsAfter.{letters_that_stay};
 
 use crate::line_facts::edited::{Edited, Gap, Kind, Look, add_told, looks_at};
-use crate::line_facts::known::{is_at_most, name_of, plus_of};
+use crate::line_facts::known::{is_at_most, may_hold_lines, name_of, plus_of};
 use crate::line_facts::new_lines::NewLines;
 use crate::line_facts::{ClearStretch, KnownLine, LineFacts, edge_of};
 use crate::marks::Marks;
@@ -42,7 +42,7 @@ pub(super) fn is_carried(zone: &Zone, look: &Look, after: u8, before: u8) -> boo
 {
     let (x, i) = (name_of(after), plus_of(after));
     let (y, j) = (name_of(before), plus_of(before));
-    after != before
+    may_hold_lines(zone, x, i, y, j)
         && (look.is_clear(zone, Name::ZERO, 0, Name::LAST_LINE, 1)
             || (look.is_clear(zone, x, i, y, j) && is_aside(zone, x, i, y, j)))
 }

@@ -11,7 +11,7 @@ ghost use Rattle.ed_rules.specs.facts.NewLines.{fresh_of, clear_of, matched_in, 
 ghost use Rattle.ed_rules.specs.FactsAfter.{stays_marked, letters_that_stay};
 
 use crate::line_facts::carried::is_carried;
-use crate::line_facts::known::{is_at_most, name_of, plus_of};
+use crate::line_facts::known::{is_at_most, may_hold_lines, name_of, plus_of};
 use crate::line_facts::new_lines::{NewLines, Tested};
 use crate::line_facts::substituted::is_spared;
 use crate::line_facts::{ClearStretch, KnownLine, LineFacts, edge_of};
@@ -391,7 +391,9 @@ fn is_left(
     let (x, i) = (name_of(after), plus_of(after));
     let (y, j) = (name_of(before), plus_of(before));
     match kind {
-        Kind::Staying => after != before && is_kept(zone, facts, edited, look, x, i, y, j),
+        Kind::Staying => {
+            may_hold_lines(zone, x, i, y, j) && is_kept(zone, facts, edited, look, x, i, y, j)
+        }
         Kind::Before => {
             look.tested.free_before_last
                 && gap.is_after(zone, x, i)

@@ -2,7 +2,7 @@
 
 ghost use Rattle.std.specs.Prelude.{◌≡◌, ◌<◌, ◌≤ℤ◌, ◌+ℤ◌, ◌-ℤ◌, ◌||◌, pos, negsuc};
 ghost use Rattle.std.specs.List.{list_any};
-ghost use Rattle.ed_rules.specs.facts.Facts.{at, point, point_at, le, same, below, says, spans, holds_line, is_clear, is_told, tells};
+ghost use Rattle.ed_rules.specs.facts.Facts.{at, point, point_at, le, same, below, may_hold_lines, says, spans, holds_line, is_clear, is_told, tells};
 ghost use Rattle.ed_rules.specs.facts.FactOrder.{is_line};
 
 use crate::line_facts::{ClearStretch, KnownLine, LineFacts};
@@ -50,6 +50,16 @@ pub(crate) fn is_at_most(zone: &Zone, x: Name, i: i64, y: Name, j: i64, c: i64) 
     } else {
         zone.is_known(x, y, d)
     }
+}
+
+/// Whether lines may come to be between x + i and y + j: x + i is known to be before y + j, or the zone doesn't say that there is no room for
+/// a line.
+pub(super) fn may_hold_lines(zone: &Zone, x: Name, i: i64, y: Name, j: i64) -> bool
+    requires small_first { (negsuc 9 ≤ℤ i) × (i ≤ℤ pos 9) }
+    requires small_second { (negsuc 9 ≤ℤ j) × (j ≤ℤ pos 9) }
+    ensures value { result ≡ may_hold_lines zone.now (point_at x i) (point_at y j) }
+{
+    is_at_most(zone, x, i, y, j, -1) || !is_at_most(zone, y, j, x, i, 1)
 }
 
 /// Whether the stretch has all of that between x + i and y + j.

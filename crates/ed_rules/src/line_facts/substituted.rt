@@ -5,7 +5,7 @@ ghost use Rattle.std.specs.List.{list_all, list_any, filter};
 ghost use Rattle.zones.specs.Name as name;
 ghost use Rattle.zones.specs.Name.{mark};
 ghost use Rattle.ed_rules.specs.Choices.{texts_of};
-ghost use Rattle.ed_rules.specs.facts.Facts.{at, point, point_at, le, is_clear, tells};
+ghost use Rattle.ed_rules.specs.facts.Facts.{at, point, point_at, le, may_hold_lines, is_clear, tells};
 ghost use Rattle.ed_rules.specs.facts.EditedFacts.{reading};
 ghost use Rattle.ed_rules.specs.facts.NewLines.{is_clear_of, spared_by};
 ghost use Rattle.ed_rules.specs.facts.SubstitutedFacts.{is_spared, substituted_facts};
@@ -13,7 +13,7 @@ ghost use Rattle.ed_rules.specs.FactsAfter.{letters_that_stay};
 
 use crate::choices::Choices;
 use crate::line_facts::edited::{Edited, Gap, Kind, Look, is_among, looks_at};
-use crate::line_facts::known::{is_at_most, name_of, plus_of};
+use crate::line_facts::known::{is_at_most, may_hold_lines, name_of, plus_of};
 use crate::line_facts::new_lines::NewLines;
 use crate::line_facts::{ClearStretch, KnownLine, LineFacts, edge_of};
 use crate::marks::Marks;
@@ -115,13 +115,13 @@ pub(super) fn is_spared(
 ) -> bool
     requires after_in_range { after < 33 }
     requires before_in_range { before < 33 }
-    ensures value { result ≡ (not (after == before) && (is_clear_of zone.now look.now (point after) (point before) &&
+    ensures value { result ≡ (may_hold_lines zone.now (point after) (point before) && (is_clear_of zone.now look.now (point after) (point before) &&
         (le zone.now (point before) (at name.first_address) (pos 0) || (le zone.now (at name.second_address) (point after) (pos 0) ||
         list_all (λ q. is_clear zone.now facts.now (point after) (point before) q) edited.now.same.items)))) }
 {
     let (x, i) = (name_of(after), plus_of(after));
     let (y, j) = (name_of(before), plus_of(before));
-    after != before
+    may_hold_lines(zone, x, i, y, j)
         && look.is_clear(zone, x, i, y, j)
         && (is_at_most(zone, y, j, Name::FIRST_ADDRESS, 0, 0)
             || is_at_most(zone, Name::SECOND_ADDRESS, 0, x, i, 0)
