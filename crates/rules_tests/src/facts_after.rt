@@ -578,8 +578,11 @@ fn begin_with(alloc: Global, keys: &[u8]) -> Result<State, AllocError> {
 
 /// How many stretches are known after a script, beside so many letters whose lines alone match a pattern.
 fn stretches_after(alloc: Global, keys: &[u8], script: &[u8]) -> Result<Option<usize>, AllocError> {
-    let state = begin_with(alloc, keys)?;
-    match after_in(alloc, state, script)? {
+    stretches_in(alloc, begin_with(alloc, keys)?, script)
+}
+
+fn stretches_in(alloc: Global, begun: State, script: &[u8]) -> Result<Option<usize>, AllocError> {
+    match after_in(alloc, begun, script)? {
         Some(state) => Ok(Some(state.facts.clear.len())),
         None => Ok(None),
     }
@@ -597,16 +600,27 @@ fn stretches_that_others_say_are_left_out(rt: HostRuntime) -> Result<(), Fail> {
     Ok(())
 }
 
+/// At least four lines. `r` matches A, and comes before `s`.
+fn begin_with_two(alloc: Global) -> Result<State, AllocError> {
+    let mut state = state_of(alloc, lines!(4, None))?;
+    state.marks.add(Letter::at(17));
+    state.marks.add(Letter::at(18));
+    state.zone.guard(Name::ZERO, at(b'r'), -1);
+    state.zone.guard(at(b'r'), at(b's'), -1);
+    state.zone.guard(at(b's'), Name::LAST_LINE, 0);
+    state.follows = true;
+    add_line(&mut state, b'r', b"A", true)?;
+    Ok(state)
+}
+
 #[test]
 fn stretches_that_never_hold_a_line_are_left_out(rt: HostRuntime) -> Result<(), Fail> {
-    // Line 2 may be on either side of each letter, so it isn't known any more after some time that `s` comes after `r`. Each line that is put
-    // in could be between them, and none could be between `s` and `r`.
-    let two = stretches_after(
-        rt.alloc(),
-        b"rs",
-        b"2a\n-\n.\n2a\n-\n.\n2a\n-\n.\n2a\n-\n.\n",
-    )?;
-    assert!(rt; two == Some(4));
+    // Line 2 may be on either side of each letter, so in the end it isn't known any more that `s` comes after `r`. No line is between `s` and
+    // `r` all the same, and nothing is said of that.
+    let state = begin_with_two(rt.alloc())?;
+    let script = b"2a\n-\n.\n2a\n-\n.\n2a\n-\n.\n2a\n-\n.\n";
+    let stretches = stretches_in(rt.alloc(), state, script)?;
+    assert!(rt; stretches == Some(0));
     Ok(())
 }
 
@@ -621,19 +635,21 @@ fn begin_at_one(alloc: Global) -> Result<State, AllocError> {
     Ok(state)
 }
 
+/// Whether, after a script on it, something else is known of the lines from `y` up to `x`.
+fn is_otherwise_at_one(alloc: Global, script: &[u8], clear: bool) -> Result<bool, AllocError> {
+    match after_in(alloc, begin_at_one(alloc)?, script)? {
+        Some(state) => Ok(answers_otherwise(&state, Asked::Clear(b'y', b'x', b"A", clear))),
+        None => Ok(true),
+    }
+}
+
 #[test]
 fn lines_that_come_before_the_next_one_are_known(rt: HostRuntime) -> Result<(), Fail> {
-    // Of both texts it is known whether a line between matches A, since none was between.
-    for (script, clear) in [
-        (b"'y+kx\n'ya\n-\n.\n", true),
-        (b"'y+kx\n'ya\nA\n.\n", false),
-    ] {
-        let state = begin_at_one(rt.alloc())?;
-        let Some(after) = after_in(rt.alloc(), state, script)? else {
-            return Err(Fail::new());
-        };
-        assert!(rt; !answers_otherwise(&after, Asked::Clear(b'y', b'x', b"A", clear)));
-    }
+    // No line is between, so only the text tells whether one between matches A.
+    let text = is_otherwise_at_one(rt.alloc(), b"'y+kx\n'ya\n-\n.\n", true)?;
+    assert!(rt; !text);
+    let other = is_otherwise_at_one(rt.alloc(), b"'y+kx\n'ya\nA\n.\n", false)?;
+    assert!(rt; !other);
     Ok(())
 }
 
