@@ -8,6 +8,8 @@ mod passing;
 #[cfg(test)]
 mod reading;
 #[cfg(test)]
+mod replacing;
+#[cfg(test)]
 mod resuming;
 #[cfg(test)]
 mod searching;
