@@ -1,5 +1,5 @@
 -- What holds of a run whose writes were held back until it had ended.
-use Rattle.std.proofs.Common.{◌≡◌, ◌≢◌, ◌<◌, ◌⊎◌, inl, inr, ℕ, zero, suc, List, [], length, Bool, true, false, nat_eq, sym, subst, ◌∙◌, true≢false, arith}
+use Rattle.std.proofs.Common.{◌≡◌, ◌≢◌, ◌<◌, ◌⊎◌, inl, inr, ℕ, zero, suc, List, [], length, Bool, false, nat_eq, sym, subst, ◌∙◌, true≢false, arith}
 use Rattle.std.proofs.lemmas.Bool.{ne_eqb}
 use Rattle.ed_session.specs.Drives.{Log, added}
 use Rattle.whole.specs.Deeds.{Deed, GoesOn, NothingPut, refusals, run_log}

@@ -4,16 +4,17 @@ use Rattle.std.specs.Prelude.{IfSome}
 use Rattle.std.proofs.lemmas.Bool.{leb-true}
 use Rattle.ed_rules.specs.LineBounds.{IsAtMost, is_within, most_lines}
 use Rattle.landmarks.specs.ChainValues.{ChainValue}
+use Rattle.ed_session.specs.Drives.{Log}
 use Rattle.ed_calls.specs.Starts.{AreAllowed, path_of, with_landmarks}
 use Rattle.ed_calls.specs.declared.starts.Starts.{Starts}
 use Rattle.ed_calls.specs.declared.starts.Starts.TheVariants as starts
 use Rattle.ed_main.specs.Job.{IsGiven}
 use Rattle.ed_main.specs.Starts.{AreStarts, HasBytes, any_start}
-use Rattle.ed_main.specs.Wanted.{AreWanted, IsFromFile, IsWanted, WithStarts, landmarked, read, unread}
+use Rattle.ed_main.specs.Wanted.{AreFound, IsNoStart, IsWanted, WithStarts, fault_of, landmarked, read, unread}
+use Rattle.ed_main.specs.declared.proposing.NoStart.{NoStart}
 use Rattle.ed_main.specs.declared.wanted.Wanted.{Wanted}
 use Rattle.ed_main.specs.declared.wanted.Wanted.TheVariants as wanted
 use Rattle.ed_main.specs.Several.{status_of_unread}
-use Rattle.sources.specs.declared.source.ReadFault.{ReadFault}
 use Rattle.ed_main.specs.Words.{are_in_order, is_path, judged_if, judged_over, starts_of, vouching_of}
 
 -- any start with a file, or the empty buffer
@@ -90,12 +91,13 @@ vouching_given over (script ∷ []) all false given = given
 vouching_given over (script ∷ next ∷ scripts) all false given = given
 
 module _ (Used : Starts → ℕ → Type 0) (status : ℕ) where
-  -- what was asked for was used
-  pub used : (over : Wanted) (starts : Starts) → AreWanted over starts → Used starts status → WithStarts over Used status
-  used (wanted.Stated given at) starts is came = landmarked starts is came
-  used (wanted.Like path patterns like) starts is came = read is.0 (subst (λ s. Used s status) is.1 came)
+  -- what was found was used
+  pub used : (before after : Log) (over : Wanted) (starts : Starts) → AreFound over before after starts → Used starts status → WithStarts over Used status
+  used before after (wanted.Stated given at) starts is came = landmarked starts is.0 came
+  used before after (wanted.Like path patterns like) starts is came = read is.file (subst (λ s. Used s status) is.exact came)
 
   -- or the file wasn't read
-  pub unused : (over : Wanted) (fault : ReadFault) → IsFromFile over → status ≡ status_of_unread fault → WithStarts over Used status
-  unused (wanted.Stated given at) fault from is = absurd from
-  unused (wanted.Like path patterns like) fault from is = unread fault is
+  pub unused : (before after : Log) (over : Wanted) (none : NoStart) → IsNoStart over before after none → status ≡ status_of_unread (fault_of none.unfit)
+      → WithStarts over Used status
+  unused before after (wanted.Stated given at) none is same = absurd is
+  unused before after (wanted.Like path patterns like) none is same = unread (fault_of none.unfit) same

@@ -30,7 +30,7 @@ use ed_calls::{
     Aside, Detail, Starts, check_text, explain_certificate, explain_script, fit, show_output,
     vouch_text,
 };
-use ed_session::Out;
+use ed_session::{DiskFiles, Out};
 use ed_syntax::Options;
 use sources::In;
 use std::fs::File;
@@ -191,9 +191,10 @@ where
     ensures status { result ≤ 4 }
     ensures came { WithStarts wanted (λ starts. WithLetters script.now starts (Somehow (Writes writing (EditsVouched starts script.now options)))) result }
 {
-    match starts_from(rt, wanted, false) {
+    let mut files = DiskFiles::new(rt.alloc(), rt);
+    match starts_from(&mut files, wanted) {
         Ok(starts) => edit_if_lettered(rt, script, options, writing, starts),
-        Err(fault) => status_of_read(fault),
+        Err(no_start) => no_start.refuse(rt, files.reason(), false),
     }
 }
 
@@ -244,9 +245,10 @@ where
     ensures status { result ≤ 4 }
     ensures came { WithStarts wanted (λ starts. WithLetters script.now starts (Somehow (λ met. Says (Vouches script.now starts) met.sink))) result }
 {
-    match starts_from(rt, wanted, false) {
+    let mut files = DiskFiles::new(rt.alloc(), rt);
+    match starts_from(&mut files, wanted) {
         Ok(starts) => vouch_if_lettered(rt, script, starts, all),
-        Err(fault) => status_of_read(fault),
+        Err(no_start) => no_start.refuse(rt, files.reason(), false),
     }
 }
 
@@ -258,9 +260,10 @@ where
     ensures status { result ≤ 4 }
     ensures came { WithStarts wanted (λ starts. Judges script.now starts scripts.now) result }
 {
-    match starts_from(rt, wanted, detail == Detail::Nothing) {
+    let mut files = DiskFiles::new(rt.alloc(), rt);
+    match starts_from(&mut files, wanted) {
         Ok(starts) => judge_scripts(rt, script, starts, scripts, detail),
-        Err(fault) => status_of_read(fault),
+        Err(no_start) => no_start.refuse(rt, files.reason(), detail == Detail::Nothing),
     }
 }
 
@@ -302,9 +305,10 @@ where
     ensures status { result ≤ 4 }
     ensures came { WithStarts wanted (λ starts. WithLetters script.now starts (Somehow (λ met. Says (Explains script.now starts) met.sink))) result }
 {
-    match starts_from(rt, wanted, false) {
+    let mut files = DiskFiles::new(rt.alloc(), rt);
+    match starts_from(&mut files, wanted) {
         Ok(starts) => explain_if_lettered(rt, script, starts),
-        Err(fault) => status_of_read(fault),
+        Err(no_start) => no_start.refuse(rt, files.reason(), false),
     }
 }
 

@@ -1,33 +1,87 @@
 //! The file that a start is proposed from, which is read before a job is done.
-ghost use Rattle.std.specs.Prelude.{◌≡◌, ◌≤◌, length, IfOk, IfErr};
-ghost use Rattle.ed_base.specs.Lines.{lines_of};
-ghost use Rattle.ed_rules.specs.LineBounds.{most_lines};
+ghost use Rattle.std.specs.Prelude.{◌≡◌, ◌≤◌, IfOk, IfErr};
 ghost use Rattle.ed_main.specs.Chains.{AreLandmarked};
+ghost use Rattle.ed_main.specs.Several.{status_of_unread};
 ghost use Rattle.ed_main.specs.Starts.{AreStarts, HasBytes};
-ghost use Rattle.ed_main.specs.Wanted.{AreWanted, IsFromFile, IsWanted};
+ghost use Rattle.ed_main.specs.Wanted.{AreFound, IsNoStart, IsProposed, IsUnfit, IsWanted, fault_of};
 
 use crate::chains::Chains;
+use crate::inputs::status_of_read;
 use crate::wanted::Wanted;
 use ed_base::{Bytes, count_lines};
 use ed_calls::{Starts, show_absent, show_too_long, show_unread};
 use ed_rules::LineBounds;
-use ed_session::{DiskFiles, Outside};
+use ed_session::Outside;
 use ed_syntax::Answer;
 use hints::Like;
 use sources::ReadFault;
 use std::alloc::AllocError;
-use std::fs::File;
-use std::rt::Files;
+use std::io;
 
-/// The start that is asked for. Where it is proposed from a file, that is read, as one is that is edited. What is wrong with it is shown, unless
-/// nothing is to be told.
-pub fn starts_from<R>(rt: &R, wanted: Wanted, is_quiet: bool) -> Result<Starts, ReadFault>
-where
-    R: Files<File = File> + Eprint + AllocGlobal,
+/// Why no start is proposed from a file.
+#[derive(Clone, Copy)]
+pub enum Unfit {
+    /// It isn't there.
+    Absent,
+    /// It can't be read.
+    Unread,
+    /// It has more lines than a start may have.
+    TooLong,
+    /// There was no memory to read it.
+    Memory,
+}
+
+impl Unfit {
+    /// The fault that it is.
+    fn fault(self) -> ReadFault
+        ensures value { result ≡ fault_of self }
+    {
+        match self {
+            Unfit::Absent | Unfit::Unread | Unfit::TooLong => ReadFault::Refused,
+            Unfit::Memory => ReadFault::Memory,
+        }
+    }
+}
+
+/// The path of a file from which no start is proposed, and why.
+#[derive(Drop)]
+pub struct NoStart {
+    like: Bytes,
+    unfit: Unfit,
+}
+
+impl NoStart {
+    /// Shows what is wrong with the file, unless nothing is to be told, and gives the status. The reason is the system's for a file that
+    /// can't be read, where there is one.
+    pub fn refuse<R>(&self, rt: &R, reason: Option<io::Error>, is_quiet: bool) -> u8
+    where
+        R: Eprint + AllocGlobal,
+        ensures status { result ≤ 4 }
+        ensures value { result ≡ status_of_unread (fault_of self.now.unfit) }
+    {
+        if !is_quiet {
+            self.show(rt, reason);
+        }
+        status_of_read(self.unfit.fault())
+    }
+
+    fn show<R: Eprint + AllocGlobal>(&self, rt: &R, reason: Option<io::Error>) {
+        let path = self.like.as_slice();
+        match self.unfit {
+            Unfit::Absent => show_absent(rt.alloc(), rt, path),
+            Unfit::Unread => show_unread(rt.alloc(), rt, path, reason),
+            Unfit::TooLong => show_too_long(rt.alloc(), rt, path),
+            Unfit::Memory => {}
+        }
+    }
+}
+
+/// The start that is asked for. Where it is proposed from a file, that is read from `files` once, as one is that is edited.
+pub fn starts_from<O: Outside>(files: &mut O, wanted: Wanted) -> Result<Starts, NoStart>
     requires given { IsWanted wanted }
-    ensures wanted { IfOk result (AreWanted wanted) }
     ensures given { IfOk result AreStarts }
-    ensures from_file { IfErr result (λ _. IsFromFile wanted) }
+    ensures found { IfOk result (AreFound wanted (O.log files.old) (O.log files.new)) }
+    ensures only_if_unfit { IfErr result (IsNoStart wanted (O.log files.old) (O.log files.new)) }
 {
     match wanted {
         Wanted::Stated(starts, at) => Ok(landmarked(starts, at)),
@@ -35,7 +89,10 @@ where
             path,
             patterns,
             like,
-        } => starts_like(rt, path, patterns, &like, is_quiet),
+        } => match starts_like(files, path, patterns, &like) {
+            Ok(starts) => Ok(starts),
+            Err(unfit) => Err(NoStart { like, unfit }),
+        },
     }
 }
 
@@ -52,51 +109,32 @@ fn landmarked(starts: Starts, at: Chains) -> Starts
     }
 }
 
-/// The start for the file at `path` that is proposed from the one at `like`.
-fn starts_like<R>(
-    rt: &R,
+/// The start for the file at `path` that is proposed from the one at `like`, which is read once.
+fn starts_like<O: Outside>(
+    files: &mut O,
     path: Option<Bytes>,
     patterns: bool,
     like: &Bytes,
-    is_quiet: bool,
-) -> Result<Starts, ReadFault>
-where
-    R: Files<File = File> + Eprint + AllocGlobal,
+) -> Result<Starts, Unfit>
     requires path { HasBytes path }
-    ensures wanted { IfOk result (AreWanted (Wanted.Like path patterns like.now)) }
     ensures given { IfOk result AreStarts }
+    ensures proposed { IfOk result (IsProposed path patterns like.now (O.log files.old) (O.log files.new)) }
+    ensures only_if_unfit { IfErr result (λ unfit. IsUnfit unfit like.now (O.log files.old) (O.log files.new)) }
 {
-    let file = file_at(rt, like.as_slice(), is_quiet)?;
-    Ok(Starts::Like(Like {
-        path,
-        patterns,
-        file,
-    }))
-}
-
-/// The bytes of the file at this path, which has as many lines as a start may have, or fewer.
-fn file_at<R>(rt: &R, path: &[u8], is_quiet: bool) -> Result<Bytes, ReadFault>
-where
-    R: Files<File = File> + Eprint + AllocGlobal,
-    ensures few { IfOk result (λ file. length (lines_of file) ≤ most_lines) }
-{
-    let mut files = DiskFiles::new(rt.alloc(), rt);
-    let answer = match files.read(path) {
-        Ok(answer) => answer,
-        Err(AllocError) => return Err(ReadFault::Memory),
-    };
-    match answer {
-        Answer::Bytes(file) => {
+    match files.read(like.as_slice()) {
+        Ok(Answer::Bytes(file)) => {
             if count_lines(file.as_slice()) as u64 <= LineBounds::MOST {
-                return Ok(file);
-            }
-            if !is_quiet {
-                show_too_long(rt.alloc(), rt, path);
+                Ok(Starts::Like(Like {
+                    path,
+                    patterns,
+                    file,
+                }))
+            } else {
+                Err(Unfit::TooLong)
             }
         }
-        Answer::Missing if !is_quiet => show_absent(rt.alloc(), rt, path),
-        Answer::Refused if !is_quiet => show_unread(rt.alloc(), rt, path, files.reason()),
-        Answer::Missing | Answer::Refused | Answer::Done => {}
+        Ok(Answer::Missing) => Err(Unfit::Absent),
+        Ok(Answer::Refused | Answer::Done) => Err(Unfit::Unread),
+        Err(AllocError) => Err(Unfit::Memory),
     }
-    Err(ReadFault::Refused)
 }

@@ -10,9 +10,9 @@ use Rattle.ed_main.proofs.program.vouch_wanted.Goals as goal
 pub returns-in-Ok-clause-came : goal.returns-in-Ok-clause-came
 returns-in-Ok-clause-came g c =
     let Used : Starts → ℕ → Type 0 = λ starts. WithLetters c.args.script.now starts (Somehow (λ met. Says (Vouches c.args.script.now starts) met.sink)) in
-    used Used _ c.args.wanted c.in-Ok.starts c.in-Ok.ensures.wanted c.vouch_if_lettered.ensures.came
+    used Used _ _ _ c.args.wanted c.in-Ok.starts c.in-Ok.ensures.found c.vouch_if_lettered.ensures.came
 
-pub returns-in-Err-clause-came : goal.returns-in-Err-clause-came
-returns-in-Err-clause-came g c =
+pub returns-clause-came : goal.returns-clause-came
+returns-clause-came g c =
     let Used : Starts → ℕ → Type 0 = λ starts. WithLetters c.args.script.now starts (Somehow (λ met. Says (Vouches c.args.script.now starts) met.sink)) in
-    unused Used _ c.args.wanted c.in-Err.fault c.in-Err.ensures.from_file c.status_of_read.ensures.value
+    unused Used _ _ _ c.args.wanted c.in-Err.no_start c.in-Err.ensures.only_if_unfit c.refuse.ensures.value
