@@ -30,6 +30,7 @@ install:
 	install -d "$(ROOT)/libexec/edv"
 	sed "s|/\.\./\.\./bin\"|/$$(realpath -m --relative-to="$(PREFIX)/libexec/edv" "$(bindir)")\"|" packaging/ed >"$(ROOT)/libexec/edv/ed"
 	chmod 755 "$(ROOT)/libexec/edv/ed"
+	install -D -m 644 packaging/ed.1 "$(ROOT)/libexec/edv/man/man1/ed.1"
 	install -D -m 644 man/edv.1 "$(ROOT)/share/man/man1/edv.1"
 	install -D -m 644 docs/VERIFIER.md "$(ROOT)/share/doc/edv/VERIFIER.md"
 	install -D -m 644 docs/RECIPES.md "$(ROOT)/share/doc/edv/RECIPES.md"
