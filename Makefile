@@ -1,5 +1,6 @@
 # `make` builds the program and shows it at work. `make check` is what one runs while working, `make test` the merge gate,
-# `make wrong-bodies` and `make wrong-rules` try the mistakes that the gate leaves out, and `make bench` measures: docs/GATE.md says more.
+# `make wrong-bodies` and `make wrong-rules` try the mistakes that the gate leaves out, `make try` and `make try-cases` run the program before
+# any proof, and `make bench` measures: docs/GATE.md says more.
 # Each does all set-up on a fresh machine that has the toolchain's command `rt`.
 
 PREFIX ?= /usr/local
@@ -8,7 +9,7 @@ ROOT = $(DESTDIR)$(PREFIX)
 PROGRAM = crates/ed_main/out/ed_main
 EXAMPLES = $(patsubst examples/%,%,$(wildcard examples/*/script.ed examples/*/before examples/*/after))
 
-.PHONY: all program install uninstall check test wrong-bodies wrong-rules bench
+.PHONY: all program try try-cases install uninstall check test wrong-bodies wrong-rules bench
 
 all: program
 	examples/run --show
@@ -20,6 +21,15 @@ program:
 	mkdir -p crates/ed_main/out out
 	cd crates/ed_main && rt run -- edit -s data/F <stdin >out/first_run
 	ln -sf ../$(PROGRAM) out/edv
+
+# What is UNPROVED promises nothing. SCRIPT names another script and FILE another file; `rt try` edits a copy.
+try:
+	@echo 'UNPROVED: nothing below is of the proved program, which make builds'
+	@cd crates/ed_main && rt try --data "F=$(abspath $(or $(FILE),crates/ed_main/data/F))" -- edit -s F <"$(abspath $(or $(SCRIPT),crates/ed_main/stdin))"
+
+# FOLDER has cases that lie as those of examples/ do, which are taken where none is named. The build stays in out/unproved.
+try-cases:
+	@tests/try-cases $(FOLDER)
 
 # Copies what is built, and calls nothing of the toolchain: under `sudo` it makes no file in this tree. The drop-in `ed` finds the program
 # by its own place.
