@@ -1,9 +1,9 @@
 #!/usr/bin/python3
-"""Draws how the editor's rows grow as one picture: picture.py [RUN [TO]], where RUN is a file of bench/runs and TO is an SVG.
+"""Draws how the editor's rows grow as one picture: picture.py [RUN [TO]], where RUN is a run of bench/editor and TO is an SVG.
 
-Without words it takes the newest run that is kept, and writes docs/growth.svg. It needs Debian's python3-matplotlib. Both axes are
+Without words it takes the run that is kept, bench/runs/editor.txt, and writes docs/growth.svg; a run of an unproved build has to be named
+with its TO. It needs Debian's python3-matplotlib. Both axes are
 logarithmic, and every panel has the same seconds: a line of slope 1 is linear growth. The same run gives the same bytes."""
-import collections
 import io
 import math
 import re
@@ -16,32 +16,22 @@ import matplotlib
 matplotlib.use("svg")
 from matplotlib import pyplot as plots, ticker  # noqa: E402
 
+sys.dont_write_bytecode = True
+from kept import rows_of  # noqa: E402
+
 TOP = Path(__file__).resolve().parents[2]
 COLUMNS = 4
 NAMES = {"ours": "edv", "ed": "GNU ed"}
 COLOURS = {"ours": "#b03030", "ed": "#3060a0", "vim": "#308050", "sed": "#c08020", "perl": "#7050a0"}
-ROW = re.compile(r"(.*) \((lines|hunks|commands|bytes)\)$")
-FIGURE = re.compile(r" +(\d+) (\w+) +(ended after )?([\d.]+) s\b")
 SECONDS = (0.005, 30)
 
 
 def rows(path):
-    """Returns the date of a run, and its rows, each with its unit, and by program with sizes, seconds and whether it was ended then."""
-    found, row = [], None
-    with open(path, encoding="utf-8") as lines:
-        date = next(lines).strip()
-        for line in lines:
-            head, figure = ROW.match(line), FIGURE.match(line)
-            if head and not line.startswith(" "):
-                row = collections.defaultdict(list)
-                found.append((head[1], head[2], row))
-            elif figure and row is not None:
-                size, program, ended, seconds = figure.groups()
-                if float(seconds) > 0 and program in COLOURS:
-                    row[program].append((int(size), float(seconds), ended is not None))
-            elif not line.startswith(" "):
-                row = None
-    return date, [it for it in found if any(len(points) > 1 for points in it[2].values())]
+    """Returns the date of a run, and its rows, each with its unit, and by program with what is drawn of it."""
+    head, found = rows_of(path)
+    drawn = [(title, unit, {program: [it for it in row[program] if it[1] > 0] for program in row if program in COLOURS})
+             for title, unit, row, _ in found]
+    return head[0], [it for it in drawn if any(len(points) > 1 for points in it[2].values())]
 
 
 def short(size):
@@ -87,7 +77,9 @@ def shrunk(picture):
 
 def main():
     path, to = (sys.argv[1:] + [None, None])[:2]
-    path = path or max(TOP.glob("bench/runs/*/editor.txt"))
+    path = path or TOP / "bench/runs/editor.txt"
+    if not to and "UNPROVED" in Path(path).read_text(encoding="utf-8"):
+        sys.exit(f"{path} is of an unproved build: name the picture")
     date, found = rows(path)
     plots.rcParams.update({"svg.hashsalt": "mullerfawn", "font.family": "DejaVu Sans", "svg.fonttype": "none"})
     high = math.ceil((len(found) + 1) / COLUMNS)

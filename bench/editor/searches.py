@@ -2,8 +2,10 @@
 """Measures searches by a pattern through the editor beside GNU ed, sed and vim, on 1,000,000 lines of 50 bytes made by
 bench/patterns/lines.awk: the search that finds the last line, `g` that prints, `g` with `s`, and `s` on all lines. Processor seconds of
 user and system, the least of two runs; what takes more than 20 of them is left out, and so is GNU ed where `g` changes lines, which takes
-it a time that grows with their square. The last table is of 10,000 searches by one pattern. It runs the program that `make` built, or
-another one that is named."""
+it a time that grows with their square. The last table is of 10,000 searches by one pattern.
+
+    searches.py [--built | --unproved PROGRAM]
+"""
 import os
 import resource
 import subprocess
@@ -11,7 +13,11 @@ import sys
 import tempfile
 
 HERE = os.path.dirname(os.path.abspath(__file__))
-PROGRAM = sys.argv[1] if len(sys.argv) > 1 else os.path.join(HERE, "../../crates/ed_main/out/ed_main")
+sys.dont_write_bytecode = True
+sys.path.insert(1, os.path.join(HERE, ".."))
+import build  # noqa: E402 (its folder is told first)
+
+PROGRAM, MARK, _ = build.chosen("ed_main", sys.argv[1:])
 # In seconds of processor time, whatever else the machine does: a run that takes longer is ended.
 LIMIT = 20
 PATTERNS = [r"needle", r"[0-9][0-9]*", r"x.*y.*z", r"[0-9]\{3,5\} [a-z]*$", r"\([a-z]*\) \([a-z]*\) foo"]
@@ -71,6 +77,7 @@ def main():
             for _ in range(5):
                 file.write(made)
             file.write(b"END needle 12345 x y z ab cd foo 777 abc\n")
+        print(f"\n{MARK}Searches by patterns, through 1,000,000 lines of 50 bytes")
         print(f"processor seconds, locale {environment_is_c}; ours, sed, GNU ed, vim")
         for pattern in PATTERNS:
             for name, script, by_sed, by_vim in rows(pattern):

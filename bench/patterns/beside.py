@@ -6,7 +6,7 @@
 OTHER is the other program. The two take turns, N times each (5, if it isn't given), and of each the least processor seconds are told, and
 what part of the other's time ours takes. Two runs differ by some milliseconds, so where both take less than 0.02 s the ratio says little.
 With --instructions valgrind counts the instructions of one run of each, which don't depend on what else the machine does. Rows that
-became worse by more than a tenth are told once more at the end. Build crates/bre_ask first.
+became worse by more than a tenth are told once more at the end. Build crates/bre_ask first, and both alike.
 """
 import argparse
 import os
@@ -17,28 +17,29 @@ import tempfile
 
 sys.dont_write_bytecode = True
 import measure  # noqa: E402 (bytecode is turned off first)
+import rows  # noqa: E402
 
 WORSE = 1.1
 
 
 def hostile(folder):
-    for pattern, name, texts in measure.hostile():
+    for pattern, name, texts in rows.hostile():
         for text in texts:
             yield f'{name} {len(text)}', ['count', pattern], measure.written(folder, 'hostile', text + '\n')[0]
 
 
 def growth(folder):
     for size in (500_000, 1_000_000, 2_000_000):
-        for pattern in measure.NESTED:
+        for pattern in rows.NESTED:
             yield f'a {size}', ['count', pattern], measure.written(folder, 'growth', 'a' * 1_000, size // 1_000, '\n')[0]
-        for pattern in measure.SEARCHED:
+        for pattern in rows.SEARCHED:
             yield f'b, a, b {size}', ['count', pattern], measure.between(folder, size)[0]
     yield 'b, a, b 20000', ['count', 'a' + '*' * 64 + 'bb'], measure.between(folder, 20_000)[0]
 
 
 def lines(folder):
     path = measure.many_lines(folder)[0]
-    for pattern in dict.fromkeys(measure.LINES + measure.MANY):
+    for pattern in dict.fromkeys(rows.LINES + rows.MANY):
         for task in ('count', 'count_searched', 'all', 'all_searched'):
             yield f'{task} of 200000 lines', [task, pattern], path
 

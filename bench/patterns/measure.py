@@ -1,13 +1,13 @@
 #!/usr/bin/env python3
 """Measures bre_ask beside sed, perl and grep in one run: lines made to be slow, many short lines, and long lines.
 
-    python3 measure.py [--runs N] [--most SECONDS] [hostile] [growth] [lines] [long] [places] [searcher] [all] [letter]
-        [references] [limits]
+    python3 measure.py [--built | --unproved PROGRAM] [--runs N] [--most SECONDS] [hostile] [growth] [lines] [long] [places] [searcher]
+        [all] [letter] [references] [limits]
 
 Each figure is processor seconds, the least of N runs (3, if it isn't given), and the most memory in MB; what runs the programs has
 11 MB itself, so no less is told, and no text is held here. `^` is how the time grows with the line: 1 is in proportion, 2 is with
 its square; it is told where both times are above what starting takes. A program that takes more than SECONDS (20) is stopped.
-The counts of lines have to agree. Build crates/bre_ask first.
+The counts of lines have to agree.
 """
 import argparse
 import itertools
@@ -18,37 +18,16 @@ import resource
 import subprocess
 import sys
 import tempfile
-import time
 
 HERE = os.path.dirname(os.path.abspath(__file__))
+sys.dont_write_bytecode = True
+sys.path.insert(1, os.path.join(HERE, '..'))
+import build  # noqa: E402 (its folder is told first)
+from rows import FASTEST, LINES, MANY, NESTED, REFERENCES, SEARCHED, SIZES, hostile  # noqa: E402
+
 PROGRAM = os.path.join(HERE, '../../crates/bre_ask/out/bre_ask')
 MOST = 20  # seconds
 RUNS = 3
-
-EQUALS = r'\(.*\)=\(.*\)=\1$'
-
-
-NESTED = (r'\(a*\)*[bc]', 'a*a*a*a*a*[bc]', r'\(a\)*b', r'\(a*\)*', r'\(\(a*\)*b\)*')
-# A line of `a` alone lacks the `b`, which is told without a search; one of `a` between two `b` has all bytes and no match.
-SEARCHED = (r'\(a*\)*bb', 'a*a*a*a*a*bb', r'\(a\)*bb')
-
-
-def hostile():
-    """Patterns with texts of one line: the pattern, the name of the text, and the texts."""
-    for pattern in NESTED:
-        yield pattern, 'a', ['a' * size for size in (5_000, 10_000, 20_000)]
-    for pattern in SEARCHED:
-        yield pattern, 'b, a, b', ['b' + 'a' * size + 'b' for size in (5_000, 10_000, 20_000)]
-    yield r'\(a\{0,99\}\)\{0,99\}[bc]', 'a', ['a' * 20, 'a' * 60]
-    yield r'\(a*\)\1b', 'a', ['a' * size for size in (500, 1_000, 2_000)]
-    yield r'\(a*\)\1b', 'a, cb', ['a' * size + 'cb' for size in (500, 1_000, 2_000)]
-    yield EQUALS, 'a', ['a' * size for size in (250, 500)]
-    yield EQUALS, 'a=', ['a=' * (size // 2) for size in (250, 500)]
-    yield EQUALS, 'nine a and =, x', [('a' * 9 + '=') * (size // 10) + 'x' for size in (250, 500)]
-    yield EQUALS, 'a=, x', ['a=' * (size // 2) + 'x' for size in (250, 500)]
-    yield EQUALS, '=, x', ['=' * size + 'x' for size in (250, 500)]
-    yield r'\(.*\)=\(.*\)=\1b', '=, cb', ['=' * size + 'cb' for size in (250, 500)]
-
 
 def extended(pattern):
     """A basic regular expression as perl takes it."""
@@ -103,9 +82,15 @@ def best(command, path):
     return None if None in runs else min(runs, key=lambda figures: figures[0])
 
 
+def beside(taken):
+    """How the first of some programs compares with the others, by the seconds of each."""
+    first, *others = taken or ['']
+    return ', '.join(f'{taken[first] / taken[name]:.2f} x {name}' for name in others if first == 'bre_ask' and taken[name] > 0)
+
+
 def compare(pattern, texts, starting, programs=None, commands_of=commands):
-    """The figures of each program on each of some files."""
-    rows = {}
+    """The figures of each program on each of some files, and how ours compares with the others on the last of them."""
+    rows, taken = {}, {}
     for name in commands_of(pattern):
         if programs and name not in programs:
             continue
@@ -116,6 +101,7 @@ def compare(pattern, texts, starting, programs=None, commands_of=commands):
                 figures.append(f'over {MOST} s')
                 break
             seconds, memory, lines = found
+            taken[name] = path, seconds
             told = f'{seconds:.3f} s {memory:.0f} MB'
             net = seconds - starting[name]
             if last and net > 0.02 and last[0] > 0.005:
@@ -124,6 +110,9 @@ def compare(pattern, texts, starting, programs=None, commands_of=commands):
             figures.append(told)
             rows.setdefault(path, {})[name] = lines
         print(f'  {name:10}' + '  '.join(f'{told:24}' for told in figures).rstrip())
+    at = texts[-1][0]
+    if compared := beside({name: seconds for name, (path, seconds) in taken.items() if path == at}):
+        print(f'  ours: {compared}')
     for path, counts in rows.items():
         if len(set(counts.values())) > 1:
             print(f'  THE COUNTS DIFFER: {counts}')
@@ -174,9 +163,6 @@ def measure_growth(folder, starting):
     compare('a' + '*' * 64 + 'bb', lines, starting, ('bre_ask', 'sed -n', 'grep -c'))
 
 
-LINES = ('needle', '[0-9][0-9]*', 'foo[0-9]*bar', '^#', '[ ]*$', r'\([a-z]*\) \1', r'x.*y.*z')
-
-
 def measure_lines(folder, starting):
     print('\n200,000 lines of 50 bytes')
     lines = many_lines(folder)
@@ -210,13 +196,6 @@ def measure_places(folder, starting):
             found = best([PROGRAM, 'places'], path)
             told = f'over {MOST} s' if found is None else f'{found[0]:.3f} s {found[1]:.0f} MB  {found[2]}'
             print(f'  {pattern} on {word}, {name:15} {told}'.rstrip(), flush=True)
-
-
-# Patterns of each kind that a searcher looks for in its own way.
-MANY = (
-    'needle', '[0-9][0-9]*', 'foo[0-9]*bar', '^#', '[ ]*$', 'x.*y.*z', r'\([a-z]*\) \([a-z]*\) foo', r'[aeiou]\{3\}x', r'\(ab*\)*c[0-9]',
-    'q[^ ]* [^ ]*q', r'[0-9]\{3,5\} [a-z]*$', r'a.\{8\}b', '[a-z]*=[0-9]', 'zz*[ ]',
-)
 
 
 def all_of(pattern):
@@ -272,48 +251,16 @@ def with_replacing(letter):
 def print_rows(patterns, programs, path):
     """A row for each pattern: the seconds of each program, and what was counted."""
     for pattern in patterns:
-        row, seen = [], {}
+        row, seen, taken = [], {}, {}
         for name, command in programs(pattern).items():
             found = best(command, path)
             row.append(f'{name} over {MOST} s' if found is None else f'{name} {found[0]:.2f}')
+            if found is not None:
+                taken[name] = found[0]
             if found is not None and not name.endswith(' s'):
                 seen[name] = found[2]
         differ = '' if len(set(seen.values())) < 2 else f'  THE COUNTS DIFFER: {seen}'
-        print(f'  {pattern:26} {next(iter(seen.values()), "-"):>9}  ' + '  '.join(row) + differ, flush=True)
-
-
-# How long the lines are in which back-references are looked for, but for a few bytes at their ends.
-SIZES = (68, 200, 400, 1_000)
-# Patterns with back-references whose ways are many: many of them end at one place with the same spans of the groups referred to.
-REFERENCES = (
-    (r'\(a\{1,2\}[\a]\)*a\1$', 'a', lambda size: 'a' * size),
-    (r'\(.*\)*\1', 'a', lambda size: 'a' * size),
-    (r'\(a*\)*\1b', 'b, a, cb', lambda size: 'b' + 'a' * size + 'cb'),
-    (r'\(a*\)*\1bb', 'b, a, cb', lambda size: 'b' + 'a' * size + 'cbbc'),
-    (r'\(\(a\)*b\)*\1\2', 'aab', lambda size: 'aab' * (size // 3)),
-    (r'\(a\{0,9\}\)\{0,9\}\1$', 'a, b', lambda size: 'a' * size + 'b'),
-    (r'\(a\{1,3\}\)*b\1$', 'a, b, aa', lambda size: 'a' * size + 'baa'),
-    (r'\(a*b*\)*\1$', 'ab, c', lambda size: 'ab' * (size // 2) + 'c'),
-    (r'\(.\{1,3\}\)*\1\1$', 'a', lambda size: 'a' * size),
-    (r'\(a*\)\{2,\}\1b', 'a, b', lambda size: 'a' * size + 'b'),
-    (r'\(a\)*\(a\)*\(a\)*\(a\)*b\1b', 'b, a, cb', lambda size: 'b' + 'a' * size + 'cb'),
-    (r'\(\(a*a*\)\(a*a*\)\)*b\1b', 'b, a, cb', lambda size: 'b' + 'a' * size + 'cb'),
-    (r'\([^,]*\),\(.*,\)*\1$', 'ab,', lambda size: 'ab,' * (size // 3) + 'cd'),
-)
-
-
-# What grows fastest: repeats in one another, which are gone through anew from each turn, items that part after a group that is referred
-# to, several such groups, and, without a back-reference, counted repeats in one another that are too many to be written out.
-FASTEST = (
-    (r'a***\(b\)\1bb', 'b, a, cbbcb', lambda size: 'b' + 'a' * size + 'cbbcb'),
-    (r'a****\(b\)\1bb', 'b, a, cbbcb', lambda size: 'b' + 'a' * size + 'cbbcb'),
-    (r'\(\(a*\)*\)*\2bb', 'b, a, cbbc', lambda size: 'b' + 'a' * size + 'cbbc'),
-    (r'\(\(\(a*\)*\)*\)*\3bb', 'b, a, cbbc', lambda size: 'b' + 'a' * size + 'cbbc'),
-    (r'a*\(a*\)a*a*\1bb', 'b, a, cbbc', lambda size: 'b' + 'a' * size + 'cbbc'),
-    (r'\(a*\)\(a*\)\(a*\)\1\2\3bb', 'b, a, cbbc', lambda size: 'b' + 'a' * size + 'cbbc'),
-    (r'.*\(.*\).*\(.*\).*\1.*\2.*bb', 'b, a, cbbc', lambda size: 'b' + 'a' * size + 'cbbc'),
-    (r'\(\(\(a\{0,200\}\)\{0,200\}\)\{0,200\}\)bb', 'b, a, b', lambda size: 'b' + 'a' * size + 'b'),
-)
+        print(f'  {pattern:26} {next(iter(seen.values()), "-"):>9}  ' + '  '.join(row) + f'  {beside(taken)}'.rstrip() + differ, flush=True)
 
 
 def measure_limits(folder, starting):
@@ -350,18 +297,18 @@ PARTS = {'hostile': measure_hostile, 'growth': measure_growth, 'lines': measure_
 
 
 def main():
-    global RUNS, MOST
+    global RUNS, MOST, PROGRAM
+    PROGRAM, mark, arguments = build.chosen('bre_ask', sys.argv[1:])
     parser = argparse.ArgumentParser()
     parser.add_argument('--runs', type=int, default=RUNS)
     parser.add_argument('--most', type=int, default=MOST)
     parser.add_argument('parts', metavar='PART', nargs='*', help=', '.join(PARTS))
-    words = parser.parse_args()
+    words = parser.parse_args(arguments)
     RUNS, MOST = words.runs, words.most
-    print(time.strftime('%Y-%m-%d'))
     with tempfile.TemporaryDirectory() as folder:
         empty = written(folder, 'empty', '')[0]
         starting = {name: best(command, empty)[0] for name, command in {**commands('a', empty), **with_editor('a', empty)}.items()}
-        print('starting: ' + ', '.join(f'{name} {seconds:.3f} s' for name, seconds in starting.items()))
+        print(f'{mark}starting: ' + ', '.join(f'{name} {seconds:.3f} s' for name, seconds in starting.items()))
         for part in words.parts or PARTS:
             PARTS[part](folder, starting)
 

@@ -1,22 +1,28 @@
 """Processor time and peak memory of `vouch`, `check` and `run` beside `edit`, on the same scripts.
 
-    measure.py PROGRAM
+    measure.py [--built | --unproved PROGRAM]
 
 Straight scripts change lines one after another from the last to the first; an update, as `diff -e` writes it, changes, deletes and adds
 lines by turns, at places that are spread over its file; the others are of globals, whose lists the verifier goes through until an
 invariant is found. The file of the straight scripts has 100,000 lines, that of the update 300,000, of 49 bytes each as in ../editor, that of
-the globals 1,000, and that of the small scripts ten: there `edit` over no command is the start of the program. Each figure is the best of three runs, that
+the globals 1,000, and that of the small scripts ten: there `edit` over no command is the start of the program. Refused scripts are measured beside those that lack the one command that may fail.
+Each figure is the best of three runs, that
 of a small script the best of a hundred. For large straight scripts the times, and the peak of `check`, are given for each command too. A
 peak of some 10 MiB is that of this script, from which the program is started.
 """
 
 import os
 import resource
+import shutil
 import subprocess
 import sys
 import tempfile
 
-OURS = sys.argv[1]
+sys.dont_write_bytecode = True
+sys.path.insert(1, os.path.join(os.path.dirname(os.path.abspath(__file__)), '..'))
+import build  # noqa: E402 (its folder is told first)
+
+OURS, MARK, _ = build.chosen('ed_main', sys.argv[1:])
 LARGE = 1000
 
 
@@ -58,16 +64,41 @@ def searching(count):
     yield 'w\nq\n'
 
 
+def all_searching(count):
+    """So many commands that search, each for a line of its own, and a `w`."""
+    for number in range(count):
+        yield f'/^key{number}=/a\nx\n.\n'
+    yield 'w\nq\n'
+
+
+def straight_in_place(count):
+    """So many commands that change the current line."""
+    for _ in range(count):
+        yield 's/^/x/\n'
+
+
+def globals_in_place(count):
+    """So many globals that change lines."""
+    for _ in range(count):
+        yield 'g/a/s/b/x/\n'
+
+
 # Nine lines, each the only one that its pattern matches.
 CHAIN = '; '.join(f'only /^key{number}=/' for number in range(1, 10))
 
 
 def landmarked(count):
-    """So many commands beside nine landmarks: below each in turn a line comes in and goes out again, and between one and the next all are shown."""
+    """So many commands beside nine landmarks: below each in turn a line comes in, is marked and goes out again, and between one and the next all
+    are shown."""
     for number in range(count - 2):
         turn, kind = number // 5 % 8 + 1, number % 5
-        yield (f'/^key{turn}=/a\nx\n.\n', f'/^key{turn}=/ka\n', f'/^key{turn}=/+1d\n', f'/^key{turn}=/;/^key{turn + 1}=/p\n', "'a=\n")[kind]
+        yield (f'/^key{turn}=/a\nx\n.\n', 'ka\n', f'/^key{turn}=/+1d\n', f'/^key{turn}=/;/^key{turn + 1}=/p\n', f'/^key{turn}=/=\n')[kind]
     yield 'w\nq\n'
+
+
+def written(name, lines):
+    with open(name, 'w') as out:
+        out.writelines(lines)
 
 
 def measured(words, script, output):
@@ -98,19 +129,14 @@ def table(title, kind, lines, counts, runs=3, line='line {} of the file\n'):
     """One row for each number of commands. Times are in milliseconds where there are many runs."""
     unit, factor, digits = ('s', 1, 3) if runs == 3 else ('ms', 1000, 2)
     by_command = '  a command of vouch, check, run' if kind in (straight, update) else ''
-    print(f'\n{title}')
+    print(f'\n{MARK}{title}')
     print(f'{"commands":>9} {"vouch":>17} {"check":>17} {"run":>17} {"edit":>17} {"certificate":>12}{by_command}')
     with tempfile.TemporaryDirectory() as folder:
         os.chdir(folder)
-        text = ''.join(line.format(number) for number in range(lines))
-
-        def restore():
-            with open('F', 'w') as out:
-                out.write(text)
-
+        written('kept', (line.format(number) for number in range(lines)))
+        restore = lambda: shutil.copyfile('kept', 'F')
         for count in counts:
-            with open('script', 'w') as out:
-                out.writelines(kind(count))
+            written('script', kind(count))
             figures = [best(words, 'script', output, restore, runs) for words, output in (
                 (['vouch', '--min', str(lines), '--max', str(lines), 'F'], 'C'), (['check', 'C'], 'told'),
                 (['run', 'C', '-s', 'F'], 'told'), (['edit', '-s', 'F'], 'told'))]
@@ -121,48 +147,57 @@ def table(title, kind, lines, counts, runs=3, line='line {} of the file\n'):
         os.chdir('/')
 
 
-def found(counts):
-    """One row for each number of commands: the start is found, its certificate made, and the script run."""
-    print('\nStarts that are found: a tenth of the commands search, each for another line')
-    print(f'{"commands":>9} {"vouch, found":>17} {"vouch, given":>17} {"edit --vouched":>17} {"edit":>17}')
+def row(count, figures, more=''):
+    """One row: seconds, peak memory and, where it isn't 0, the status of each."""
+    told = (f'{time:8.3f} s  {peak:4.0f} M' + ('' if status == 0 else f' ({status})') for time, peak, status in figures)
+    print(f'{count:>9} ' + ' '.join(told) + more, flush=True)
+
+
+def found(title, kind, searches, counts):
+    """One row for each number of commands: the start is found, its certificate made, checked, and the script run."""
+    print(f'\n{MARK}{title}')
+    print(f'{"commands":>9} {"vouch, found":>17} {"vouch, given":>17} {"check":>17} {"edit --vouched":>17} {"edit":>17} {"certificate":>12}')
     with tempfile.TemporaryDirectory() as folder:
         os.chdir(folder)
-
-        def restore():
-            with open('F', 'w') as out:
-                out.writelines(f'key{number}=value\n' for number in range(max(counts)))
-
         for count in counts:
-            with open('script', 'w') as out:
-                out.writelines(searching(count))
-            given = [word for number in range(0, count - 2, 10) for word in ('--has', f'^key{number}=')]
+            written('script', kind(count))
+            restore = lambda: written('F', (f'key{number}=value\n' for number in range(max(counts))))
+            given = [word for number in searches(count) for word in ('--has', f'^key{number}=')]
             figures = [best(words, 'script', output, restore, 3) for words, output in (
-                (['vouch', 'F'], 'C'), (['vouch', '--min', '97', '--max', 'any', *given, 'F'], 'C'),
+                (['vouch', 'F'], 'C'), (['vouch', '--min', '97', '--max', 'any', *given, 'F'], 'C'), (['check', 'C'], 'told'),
                 (['edit', '--vouched', '-s', 'F'], 'told'), (['edit', '-s', 'F'], 'told'))]
-            print(f'{count:>9} ' + ' '.join(f'{time:8.3f} s  {peak:4.0f} M' + ('' if status == 0 else f' ({status})')
-                                            for time, peak, status in figures), flush=True)
+            row(count, figures, f' {os.path.getsize("C") / 2**20:8.1f} MiB')
+        os.chdir('/')
+
+
+def refused(title, kind, counts):
+    """One row for each number of commands: the script that is vouched for, and with one more command that may fail."""
+    print(f'\n{MARK}{title}')
+    print(f'{"commands":>9} {"vouch":>17} {"refused":>21} {"refused, --all":>21}')
+    with tempfile.TemporaryDirectory() as folder:
+        os.chdir(folder)
+        for count in counts:
+            written('script', [*kind(count), 'w\nq\n'])
+            written('failing', [*kind(count), '/no such line/p\nw\nq\n'])
+            bounds = ['--min', '1', '--max', 'any', 'F']
+            row(count, [best(['vouch', *words, *bounds], script, 'C', lambda: None, 3)
+                        for script, words in (('script', []), ('failing', []), ('failing', ['--all']))])
         os.chdir('/')
 
 
 def beside_landmarks(counts):
     """One row for each number of commands: vouched for with landmarks, checked and run over a file that has them."""
-    print('\nLandmarks: nine lines of the start')
+    print(f'\n{MARK}Landmarks: nine lines of the start')
     print(f'{"commands":>9} {"vouch":>17} {"check":>17} {"run":>17} {"edit":>17} {"certificate":>12}')
     with tempfile.TemporaryDirectory() as folder:
         os.chdir(folder)
-
-        def restore():
-            with open('F', 'w') as out:
-                out.writelines(f'key{number}=value\nother=value\n' for number in range(1, 10))
-
+        restore = lambda: written('F', (f'key{number}=value\nother=value\n' for number in range(1, 10)))
         for count in counts:
-            with open('script', 'w') as out:
-                out.writelines(landmarked(count))
+            written('script', landmarked(count))
             figures = [best(words, 'script', output, restore, 3) for words, output in (
                 (['vouch', '--min', '0', '--max', 'any', '--at', CHAIN, 'F'], 'C'), (['check', 'C'], 'told'),
                 (['run', 'C', '-s', 'F'], 'told'), (['edit', '-s', 'F'], 'told'))]
-            print(f'{count:>9} ' + ' '.join(f'{time:8.3f} s  {peak:4.0f} M' + ('' if status == 0 else f' ({status})')
-                                            for time, peak, status in figures) + f' {os.path.getsize("C") / 2**20:8.1f} MiB', flush=True)
+            row(count, figures, f' {os.path.getsize("C") / 2**20:8.1f} MiB')
         os.chdir('/')
 
 
@@ -173,7 +208,11 @@ def main():
     table('Updates as diff -e writes them, over a file of 300,000 lines', update, 300000, [5000, 10000, 20000],
           line='line {:07} of a text that is forty-seven bytes\n')
     table('Globals, over a file of 1,000 lines', globals_of, 1000, [10, 100, 1000])
-    found([10, 100, 1000])
+    found('Starts that are found: a tenth of the commands search, each for another line', searching, lambda count: range(0, count - 2, 10),
+          [10, 100, 1000])
+    found('Starts that are found: each command searches for another line', all_searching, range, [100, 200, 400, 800])
+    refused('Refused scripts: s/^/x/ so many times, and then a search that may fail', straight_in_place, [250, 500, 1000, 2000])
+    refused('Refused scripts: g/a/s/b/x/ so many times, and then a search that may fail', globals_in_place, [125, 250, 500])
     beside_landmarks([10, 100, 1000])
 
 
