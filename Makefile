@@ -71,5 +71,5 @@ wrong-bodies:
 wrong-rules:
 	tests/wrong-rules/run $(RULE)
 
-bench: program
+bench:
 	bench/run
