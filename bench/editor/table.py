@@ -3,6 +3,7 @@
 and the exponent by which ours grow. `table.py --show RUN` prints that of another run instead."""
 import re
 import sys
+import textwrap
 from pathlib import Path
 
 sys.dont_write_bytecode = True
@@ -36,12 +37,13 @@ def line_of(words, programs, growth):
     largest = {name: figures[-1] for name, figures in programs.items()}
     others = ", ".join(f"`{name}` {cell(figure)}" for name, figure in largest.items() if name not in ("ours", "ed", "busybox"))
     ed = cell(largest["ed"]) if "ed" in largest else ""
-    return f"| {words} | {cell(largest['ours'])} | {ed} | {others} | n^{growth['ours']} |\n"
+    return f"| {words} | {cell(largest['ours'])} | {ed} | {others} | {'n^' + growth['ours'] if 'ours' in growth else ''} |\n"
 
 
 def table_of(path):
     head, rows = rows_of(path)
-    made = f"Processor seconds by size (both axes logarithmic) and at the largest one, {head[0]}, {head[1].rstrip('.')}; {head[2]}:\n\n"
+    made = f"Processor seconds by size (both axes logarithmic) and at the largest one. {'; '.join(head[:4])}:"
+    made = textwrap.fill(made, 140, break_on_hyphens=False) + "\n\n"
     made += "![Processor seconds of each row by size, beside GNU ed, sed, vim and perl](docs/growth.svg)\n\n"
     made += "| Work | Here | GNU ed | Others | Growth |\n|---|---|---|---|---|\n"
     for part, words in SHOWN.items():
