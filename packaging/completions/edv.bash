@@ -3,7 +3,11 @@ _edv() {
   local word=${COMP_WORDS[COMP_CWORD]} before=${COMP_WORDS[COMP_CWORD - 1]} job=${COMP_WORDS[1]:-}
   COMPREPLY=()
   if [ "$COMP_CWORD" -eq 1 ]; then
-    mapfile -t COMPREPLY < <(compgen -W "edit vouch explain check run fits --help --version" -- "$word")
+    mapfile -t COMPREPLY < <(compgen -W "edit vouch explain check run fits help --help --version" -- "$word")
+    return
+  fi
+  if [ "$job" = help ]; then
+    mapfile -t COMPREPLY < <(compgen -W "edit vouch explain check run fits" -- "$word")
     return
   fi
   case $before in
