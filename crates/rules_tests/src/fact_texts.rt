@@ -57,27 +57,40 @@ fn port(alloc: Global) -> Result<LineFacts, AllocError> {
     Ok(facts)
 }
 
-#[test]
-fn facts_are_written_as_two_lines(rt: HostRuntime) -> Result<(), Fail> {
-    let facts = port(rt.alloc())?;
-    let mut out = Collecting::new(rt.alloc());
-    write_facts(&mut out, &facts);
-    let text = out.finish()?;
-    let wanted = b"lines .+=^%20a%25$ $-=x a+=^Port\nclear 0-a=^Port a-$+=x\n".as_slice();
-    assert_eq!(rt; text.as_slice(), wanted);
-    Ok(())
+fn written(alloc: Global, facts: &LineFacts) -> Result<Bytes, AllocError> {
+    let mut out = Collecting::new(alloc);
+    write_facts(&mut out, facts);
+    out.finish()
 }
 
+fn written_old(alloc: Global, facts: &LineFacts) -> Result<Bytes, AllocError> {
+    let mut out = Collecting::new(alloc);
+    write_old_facts(&mut out, facts);
+    out.finish()
+}
+
+const LINES: &[u8] = b"lines .+=^%20a%25$ $-=x a+=^Port\nclear 0-a=^Port a-$+=x\n";
+
+const OLD_LINES: &[u8] = b"old-lines .+=^%20a%25$ $-=x a+=^Port\nold-clear 0-a=^Port a-$+=x\n";
+
+fn are_written(alloc: Global) -> Result<bool, AllocError> {
+    let facts = port(alloc)?;
+    let text = written(alloc, &facts)?;
+    Ok(text.as_slice() == LINES)
+}
+
+fn are_written_old(alloc: Global) -> Result<bool, AllocError> {
+    let facts = port(alloc)?;
+    let text = written_old(alloc, &facts)?;
+    Ok(text.as_slice() == OLD_LINES)
+}
+
+/// Old ones have keys of their own.
 #[test]
-fn old_facts_have_keys_of_their_own(rt: HostRuntime) -> Result<(), Fail> {
-    let facts = LineFacts::none(rt.alloc());
-    let mut out = Collecting::new(rt.alloc());
-    write_facts(&mut out, &facts);
-    write_old_facts(&mut out, &port(rt.alloc())?);
-    let text = out.finish()?;
-    let wanted =
-        b"lines\nclear\nold-lines .+=^%20a%25$ $-=x a+=^Port\nold-clear 0-a=^Port a-$+=x\n".as_slice();
-    assert_eq!(rt; text.as_slice(), wanted);
+fn facts_are_written_as_two_lines(rt: HostRuntime) -> Result<(), Fail> {
+    let now = are_written(rt.alloc())?;
+    let old = are_written_old(rt.alloc())?;
+    assert!(rt; now && old);
     Ok(())
 }
 
@@ -97,19 +110,24 @@ fn is_known(facts: &[KnownLine], place: usize, name: Name, pattern: &[u8], match
     }
 }
 
+fn are_known(facts: &[KnownLine]) -> bool {
+    let a = Name::of(Letter::at(0));
+    facts.len() == 3
+        && is_known(facts, 0, Name::CURRENT_LINE, b"^ a%$", true)
+        && is_known(facts, 1, Name::LAST_LINE, b"x", false)
+        && is_known(facts, 2, a, b"^Port", true)
+}
+
+fn read_known(alloc: Global, line: &[u8]) -> Result<bool, AllocError> {
+    match known_in(alloc, b"lines", &only_a(), line)? {
+        Some(facts) => Ok(are_known(facts.as_slice())),
+        None => Ok(false),
+    }
+}
+
 #[test]
 fn facts_of_lines_are_read(rt: HostRuntime) -> Result<(), Fail> {
-    let line = b"lines .+=^%20a%25$ $-=x a+=^Port".as_slice();
-    let read = known_in(rt.alloc(), b"lines", &only_a(), line)?;
-    let facts = match &read {
-        Some(facts) => facts.as_slice(),
-        None => &[],
-    };
-    let a = Name::of(Letter::at(0));
-    assert_eq!(rt; facts.len(), 3);
-    assert!(rt; is_known(facts, 0, Name::CURRENT_LINE, b"^ a%$", true));
-    assert!(rt; is_known(facts, 1, Name::LAST_LINE, b"x", false));
-    assert!(rt; is_known(facts, 2, a, b"^Port", true));
+    assert!(rt; read_known(rt.alloc(), b"lines .+=^%20a%25$ $-=x a+=^Port")?);
     Ok(())
 }
 
@@ -130,18 +148,23 @@ fn is_clear(
     }
 }
 
+fn are_stretches(stretches: &[ClearStretch]) -> bool {
+    stretches.len() == 3
+        && is_clear(stretches, 0, 0, 1, b"")
+        && is_clear(stretches, 1, 0, 6, b"^Port")
+        && is_clear(stretches, 2, 6, ClearStretch::END, b"x")
+}
+
+fn read_stretches(alloc: Global, line: &[u8]) -> Result<bool, AllocError> {
+    match clear_in(alloc, b"old-clear", &only_a(), line)? {
+        Some(stretches) => Ok(are_stretches(stretches.as_slice())),
+        None => Ok(false),
+    }
+}
+
 #[test]
 fn stretches_are_read(rt: HostRuntime) -> Result<(), Fail> {
-    let line = b"old-clear 0-.= 0-a=^Port a-$+=x".as_slice();
-    let read = clear_in(rt.alloc(), b"old-clear", &only_a(), line)?;
-    let stretches = match &read {
-        Some(stretches) => stretches.as_slice(),
-        None => &[],
-    };
-    assert_eq!(rt; stretches.len(), 3);
-    assert!(rt; is_clear(stretches, 0, 0, 1, b""));
-    assert!(rt; is_clear(stretches, 1, 0, 6, b"^Port"));
-    assert!(rt; is_clear(stretches, 2, 6, ClearStretch::END, b"x"));
+    assert!(rt; read_stretches(rt.alloc(), b"old-clear 0-.= 0-a=^Port a-$+=x")?);
     Ok(())
 }
 
@@ -175,16 +198,26 @@ static READ: [Lines; 4] = [
     Lines { known: b"lines $+=+", clear: b"clear .-$+=-", text: b"lines $+=+\nclear .-$+=-\n" },
 ];
 
+fn is_written_again(alloc: Global, row: &Lines) -> Result<bool, AllocError> {
+    let Some(facts) = read(alloc, row.known, row.clear)? else {
+        return Ok(false);
+    };
+    let text = written(alloc, &facts)?;
+    Ok(text.as_slice() == row.text)
+}
+
+fn first_not_written(alloc: Global, rows: &[Lines]) -> Result<Option<usize>, AllocError> {
+    for (index, row) in rows.iter().enumerate() {
+        if !is_written_again(alloc, row)? {
+            return Ok(Some(index));
+        }
+    }
+    Ok(None)
+}
+
 #[test]
 fn what_is_read_is_written_again(rt: HostRuntime) -> Result<(), Fail> {
-    for (index, row) in READ.iter().enumerate() {
-        let mut out = Collecting::new(rt.alloc());
-        if let Some(facts) = read(rt.alloc(), row.known, row.clear)? {
-            write_facts(&mut out, &facts);
-        }
-        let text = out.finish()?;
-        assert_eq!(rt; text.as_slice(), row.text, "row {index}");
-    }
+    assert_eq!(rt; first_not_written(rt.alloc(), &READ)?, None);
     Ok(())
 }
 
@@ -222,12 +255,18 @@ static NOT_KNOWN: [&[u8]; 22] = [
     b"clear",
 ];
 
+fn first_known(alloc: Global, lines: &[&[u8]]) -> Result<Option<usize>, AllocError> {
+    for (index, line) in lines.iter().enumerate() {
+        if known_in(alloc, b"lines", &only_a(), line)?.is_some() {
+            return Ok(Some(index));
+        }
+    }
+    Ok(None)
+}
+
 #[test]
 fn lines_of_no_facts_are_refused(rt: HostRuntime) -> Result<(), Fail> {
-    for (index, line) in NOT_KNOWN.iter().enumerate() {
-        let read = known_in(rt.alloc(), b"lines", &only_a(), line)?;
-        assert!(rt; read.is_none(), "row {index}");
-    }
+    assert_eq!(rt; first_known(rt.alloc(), &NOT_KNOWN)?, None);
     Ok(())
 }
 
@@ -264,11 +303,17 @@ static NOT_CLEAR: [&[u8]; 22] = [
     b"lines",
 ];
 
+fn first_clear(alloc: Global, lines: &[&[u8]]) -> Result<Option<usize>, AllocError> {
+    for (index, line) in lines.iter().enumerate() {
+        if clear_in(alloc, b"clear", &only_a(), line)?.is_some() {
+            return Ok(Some(index));
+        }
+    }
+    Ok(None)
+}
+
 #[test]
 fn lines_of_no_stretches_are_refused(rt: HostRuntime) -> Result<(), Fail> {
-    for (index, line) in NOT_CLEAR.iter().enumerate() {
-        let read = clear_in(rt.alloc(), b"clear", &only_a(), line)?;
-        assert!(rt; read.is_none(), "row {index}");
-    }
+    assert_eq!(rt; first_clear(rt.alloc(), &NOT_CLEAR)?, None);
     Ok(())
 }

@@ -2,10 +2,10 @@
 
 ghost use Rattle.std.specs.Prelude.{◌<◌, ◌≤ℤ◌, pos, negsuc};
 
-use crate::walking::{Start, lines, named, state_of};
+use crate::walking::{Start, lines, named, state_of, walk_commands};
 use ed_base::{Bytes, Letter, Texts};
 use ed_rules::{ClearStretch, KnownLine, State, Watch, outcome_into};
-use ed_syntax::read_script;
+use ed_syntax::{Command, Script, read_script};
 use std::alloc::{AllocError, Global};
 use std::test::Fail;
 use zones::Name;
@@ -71,18 +71,22 @@ pub(crate) fn add_clear(
 /// that matches B, and comes before the last line. No line after `y` matches A.
 pub(crate) fn begin(alloc: Global) -> Result<State, AllocError> {
     let mut state = state_of(alloc, lines!(4, Some(9)))?;
+    know_two(&mut state)?;
+    Ok(state)
+}
+
+fn know_two(state: &mut State) -> Result<(), AllocError> {
     state.marks.add(Letter::at(24));
     state.marks.add(Letter::at(25));
     state.zone.guard(Name::ZERO, at(b'y'), -2);
     state.zone.guard(at(b'y'), at(b'z'), -1);
     state.zone.guard(at(b'z'), Name::LAST_LINE, -1);
     state.follows = true;
-    add_line(&mut state, b'y', b"A", true)?;
-    add_clear(&mut state, b'0', b'y', b"A")?;
-    add_clear(&mut state, b'y', b'+', b"A")?;
-    add_line(&mut state, b'z', b"B", true)?;
-    add_clear(&mut state, b'y', b'z', b"B")?;
-    Ok(state)
+    add_line(state, b'y', b"A", true)?;
+    add_clear(state, b'0', b'y', b"A")?;
+    add_clear(state, b'y', b'+', b"A")?;
+    add_line(state, b'z', b"B", true)?;
+    add_clear(state, b'y', b'z', b"B")
 }
 
 /// What is asked of a state: whether a line is known to match a pattern, or whether no line between two is known to.
@@ -413,96 +417,66 @@ static MOVED: [Row; 24] = [
     Row { script: b"'zm0\ns/B/x/\n", asked: Asked::Line(b'y', b"A", YES) },
 ];
 
-/// The state after a script, in which A and B are watched for.
-fn after_script(alloc: Global, script: &[u8], follows: bool) -> Result<Option<State>, AllocError> {
-    let mut state = begin(alloc)?;
-    // A fact of a letter that isn't sure, which is forgotten.
-    add_line(&mut state, b'x', b"A", true)?;
-    add_clear(&mut state, b'x', b'+', b"C")?;
-    state.follows = follows;
-    after_in(alloc, state, script)
-}
-
-/// The same from a state.
-pub(crate) fn after_in(
-    alloc: Global,
-    begun: State,
-    script: &[u8],
-) -> Result<Option<State>, AllocError> {
-    let mut state = begun;
-    let script = read_script(alloc, script)?;
+/// A and B, and what the commands of a script ask of lines.
+fn watched(alloc: Global, script: &Script) -> Result<Watch, AllocError> {
     let mut has = Texts::none(alloc);
     has.add(b"A")?;
     has.add(b"B")?;
-    let watch = Watch::of(&script, &has)?;
-    let mut left = state.try_copy()?;
-    for command in script.commands.as_slice() {
-        if outcome_into(command, &state, &mut left, &watch)?.is_some() {
-            return Ok(None);
-        }
-        state.try_copy_from(&left)?;
-    }
-    Ok(Some(state))
+    Watch::of(script, &has)
+}
+
+fn passes_read(alloc: Global, script: &Script, state: &mut State) -> Result<bool, AllocError> {
+    let watch = watched(alloc, script)?;
+    let failing = walk_commands(script.commands.as_slice(), state, &watch)?;
+    Ok(failing.is_none())
+}
+
+/// Takes a state through a script, in which A and B are watched for; it tells whether all needs hold.
+pub(crate) fn passes(alloc: Global, script: &[u8], state: &mut State) -> Result<bool, AllocError> {
+    let script = read_script(alloc, script)?;
+    passes_read(alloc, &script, state)
+}
+
+/// The same where a letter that isn't sure has facts too, which are forgotten.
+fn passes_knowing(alloc: Global, script: &[u8], state: &mut State) -> Result<bool, AllocError> {
+    add_line(state, b'x', b"A", true)?;
+    add_clear(state, b'x', b'+', b"C")?;
+    passes(alloc, script, state)
 }
 
 /// Whether a script comes to something else than its row says.
 fn is_otherwise(alloc: Global, row: &Row) -> Result<bool, AllocError> {
-    match after_script(alloc, row.script, true)? {
-        Some(state) => Ok(names_addresses(&state) || answers_otherwise(&state, row.asked)),
-        None => Ok(true),
+    let mut state = begin(alloc)?;
+    let passed = passes_knowing(alloc, row.script, &mut state)?;
+    Ok(!passed || names_addresses(&state) || answers_otherwise(&state, row.asked))
+}
+
+/// The first row whose script comes to something else.
+fn first_otherwise(alloc: Global, rows: &[Row]) -> Result<Option<usize>, AllocError> {
+    for (index, row) in rows.iter().enumerate() {
+        if is_otherwise(alloc, row)? {
+            return Ok(Some(index));
+        }
     }
+    Ok(None)
 }
 
 /// Whether facts are left where no lines are followed.
 fn leaves_facts(alloc: Global, script: &[u8]) -> Result<bool, AllocError> {
-    match after_script(alloc, script, false)? {
-        Some(state) => Ok(!state.facts.are_none()),
-        None => Ok(true),
-    }
+    let mut state = begin(alloc)?;
+    state.follows = false;
+    let passed = passes_knowing(alloc, script, &mut state)?;
+    Ok(!passed || !state.facts.are_none())
 }
 
 #[test]
-fn commands_that_change_no_line_keep_facts(rt: HostRuntime) -> Result<(), Fail> {
-    for row in &KEPT {
-        let otherwise = is_otherwise(rt.alloc(), row)?;
-        assert!(rt; !otherwise, "{:?} {:?}", row.script, row.asked);
-    }
-    Ok(())
-}
-
-#[test]
-fn facts_go_with_the_current_line_and_with_marks(rt: HostRuntime) -> Result<(), Fail> {
-    for row in &CURRENT {
-        let otherwise = is_otherwise(rt.alloc(), row)?;
-        assert!(rt; !otherwise, "{:?} {:?}", row.script, row.asked);
-    }
-    Ok(())
-}
-
-#[test]
-fn substitutions_on_one_line_keep_what_is_known_of_the_others(rt: HostRuntime) -> Result<(), Fail> {
-    for row in &SUBSTITUTIONS {
-        let otherwise = is_otherwise(rt.alloc(), row)?;
-        assert!(rt; !otherwise, "{:?} {:?}", row.script, row.asked);
-    }
-    Ok(())
-}
-
-#[test]
-fn undo_brings_back_what_was_known(rt: HostRuntime) -> Result<(), Fail> {
-    for row in &UNDONE {
-        let otherwise = is_otherwise(rt.alloc(), row)?;
-        assert!(rt; !otherwise, "{:?} {:?}", row.script, row.asked);
-    }
-    Ok(())
-}
-
-#[test]
-fn lines_that_are_moved_keep_what_is_known_of_them(rt: HostRuntime) -> Result<(), Fail> {
-    for row in &MOVED {
-        let otherwise = is_otherwise(rt.alloc(), row)?;
-        assert!(rt; !otherwise, "{:?} {:?}", row.script, row.asked);
-    }
+fn commands_leave_these_facts(rt: HostRuntime) -> Result<(), Fail> {
+    assert_eq!(rt; first_otherwise(rt.alloc(), &KEPT)?, None);
+    assert_eq!(rt; first_otherwise(rt.alloc(), &CURRENT)?, None);
+    assert_eq!(rt; first_otherwise(rt.alloc(), &EDITS)?, None);
+    assert_eq!(rt; first_otherwise(rt.alloc(), &SUBSTITUTIONS)?, None);
+    assert_eq!(rt; first_otherwise(rt.alloc(), &UNDONE)?, None);
+    assert_eq!(rt; first_otherwise(rt.alloc(), &MOVED)?, None);
     Ok(())
 }
 
@@ -520,44 +494,65 @@ static LISTED: [Row; 10] = [
     Row { script: b"g/x/'yd\n", asked: Asked::Line(b'z', b"B", YES) },
 ];
 
+/// The first command of a script's first list.
+fn first_listed(script: &Script) -> Option<&Command> {
+    match script.commands.first() {
+        Some(command) => command.list().first(),
+        None => None,
+    }
+}
+
+fn leaves_otherwise(
+    alloc: Global,
+    listed: &Command,
+    state: &State,
+    asked: Asked,
+) -> Result<bool, AllocError> {
+    let mut left = state.try_copy()?;
+    let failed = outcome_into(listed, state, &mut left, &Watch::none(alloc))?;
+    Ok(failed.is_some() || answers_otherwise(&left, asked))
+}
+
+fn is_otherwise_from(alloc: Global, row: &Row, state: &State) -> Result<bool, AllocError> {
+    let script = read_script(alloc, row.script)?;
+    match first_listed(&script) {
+        Some(listed) => leaves_otherwise(alloc, listed, state, row.asked),
+        None => Ok(true),
+    }
+}
+
 /// Whether the first command of a list leaves something else than its row says.
 fn is_otherwise_in_list(alloc: Global, row: &Row) -> Result<bool, AllocError> {
     let state = begin(alloc)?;
-    let script = read_script(alloc, row.script)?;
-    let mut left = state.try_copy()?;
-    for command in script.commands.as_slice() {
-        for listed in command.list() {
-            let failed = outcome_into(listed, &state, &mut left, &Watch::none(alloc))?;
-            return Ok(failed.is_some() || answers_otherwise(&left, row.asked));
-        }
-    }
-    Ok(true)
+    is_otherwise_from(alloc, row, &state)
 }
 
+fn first_otherwise_in_list(alloc: Global, rows: &[Row]) -> Result<Option<usize>, AllocError> {
+    for (index, row) in rows.iter().enumerate() {
+        if is_otherwise_in_list(alloc, row)? {
+            return Ok(Some(index));
+        }
+    }
+    Ok(None)
+}
+
+/// There it may be that no line matches, and none is changed.
 #[test]
 fn in_a_list_a_substitution_leaves_lines_that_its_pattern_does_not_match(
     rt: HostRuntime,
 ) -> Result<(), Fail> {
-    // There it may be that no line matches, and none is changed.
-    for row in &LISTED {
-        let otherwise = is_otherwise_in_list(rt.alloc(), row)?;
-        assert!(rt; !otherwise, "{:?} {:?}", row.script, row.asked);
-    }
-    Ok(())
-}
-
-#[test]
-fn edits_keep_what_they_do_not_touch(rt: HostRuntime) -> Result<(), Fail> {
-    for row in &EDITS {
-        let otherwise = is_otherwise(rt.alloc(), row)?;
-        assert!(rt; !otherwise, "{:?} {:?}", row.script, row.asked);
-    }
+    assert_eq!(rt; first_otherwise_in_list(rt.alloc(), &LISTED)?, None);
     Ok(())
 }
 
 /// At least four lines. The letters of the keys mark lines in this order, the first of them after line 1; each alone matches its key.
 fn begin_with(alloc: Global, keys: &[u8]) -> Result<State, AllocError> {
     let mut state = state_of(alloc, lines!(4, None))?;
+    know_keys(keys, &mut state)?;
+    Ok(state)
+}
+
+fn know_keys(keys: &[u8], state: &mut State) -> Result<(), AllocError> {
     state.follows = true;
     let mut before = Name::ZERO;
     for key in keys {
@@ -568,35 +563,60 @@ fn begin_with(alloc: Global, keys: &[u8]) -> Result<State, AllocError> {
         state.zone.guard(before, name, -1);
         before = name;
         let pattern: &[u8] = &[*key];
-        add_line(&mut state, *key, pattern, true)?;
-        add_clear(&mut state, b'0', *key, pattern)?;
-        add_clear(&mut state, *key, b'+', pattern)?;
+        add_line(state, *key, pattern, true)?;
+        add_clear(state, b'0', *key, pattern)?;
+        add_clear(state, *key, b'+', pattern)?;
     }
     state.zone.guard(before, Name::LAST_LINE, 0);
-    Ok(state)
+    Ok(())
 }
 
 /// How many stretches are known after a script, beside so many letters whose lines alone match a pattern.
 fn stretches_after(alloc: Global, keys: &[u8], script: &[u8]) -> Result<Option<usize>, AllocError> {
-    stretches_in(alloc, begin_with(alloc, keys)?, script)
+    let mut state = begin_with(alloc, keys)?;
+    stretches_in(alloc, &mut state, script)
 }
 
-fn stretches_in(alloc: Global, begun: State, script: &[u8]) -> Result<Option<usize>, AllocError> {
-    match after_in(alloc, begun, script)? {
-        Some(state) => Ok(Some(state.facts.clear.len())),
-        None => Ok(None),
+fn stretches_in(
+    alloc: Global,
+    state: &mut State,
+    script: &[u8],
+) -> Result<Option<usize>, AllocError> {
+    if passes(alloc, script, state)? {
+        Ok(Some(state.facts.clear.len()))
+    } else {
+        Ok(None)
     }
+}
+
+/// A script beside letters whose lines alone match patterns, and how many stretches are known after it.
+#[derive(Drop)]
+struct Counted {
+    keys: &'static [u8],
+    script: &'static [u8],
+    stretches: usize,
+}
+
+#[rattlefmt::skip]
+static COUNTED: [Counted; 3] = [
+    // One up to the letter and one from it, of each pattern, whatever is edited on one side.
+    Counted { keys: b"r", script: b"$a\n-\n.\n", stretches: 2 },
+    Counted { keys: b"rstuvwxyz", script: b"$a\n-\n.\n", stretches: 18 },
+    Counted { keys: b"rstuvwxyz", script: b"$a\n-\n.\n0a\n-\n.\n'z\n", stretches: 18 },
+];
+
+fn first_counted_otherwise(alloc: Global, rows: &[Counted]) -> Result<Option<usize>, AllocError> {
+    for (index, row) in rows.iter().enumerate() {
+        if stretches_after(alloc, row.keys, row.script)? != Some(row.stretches) {
+            return Ok(Some(index));
+        }
+    }
+    Ok(None)
 }
 
 #[test]
 fn stretches_that_others_say_are_left_out(rt: HostRuntime) -> Result<(), Fail> {
-    // One up to the letter and one from it, of each pattern, whatever is edited on one side.
-    let one = stretches_after(rt.alloc(), b"r", b"$a\n-\n.\n")?;
-    assert!(rt; one == Some(2));
-    let nine = stretches_after(rt.alloc(), b"rstuvwxyz", b"$a\n-\n.\n")?;
-    assert!(rt; nine == Some(18));
-    let again = stretches_after(rt.alloc(), b"rstuvwxyz", b"$a\n-\n.\n0a\n-\n.\n'z\n")?;
-    assert!(rt; again == Some(18));
+    assert_eq!(rt; first_counted_otherwise(rt.alloc(), &COUNTED)?, None);
     Ok(())
 }
 
@@ -613,14 +633,18 @@ fn begin_with_two(alloc: Global) -> Result<State, AllocError> {
     Ok(state)
 }
 
+/// Line 2 may be on either side of each letter, so in the end it isn't known any more that `s` comes after `r`. No line is between `s` and
+/// `r` all the same, and nothing is said of that.
+const FOUR_LINES: &[u8] = b"2a\n-\n.\n2a\n-\n.\n2a\n-\n.\n2a\n-\n.\n";
+
+fn empty_stretches(alloc: Global) -> Result<Option<usize>, AllocError> {
+    let mut state = begin_with_two(alloc)?;
+    stretches_in(alloc, &mut state, FOUR_LINES)
+}
+
 #[test]
 fn stretches_that_never_hold_a_line_are_left_out(rt: HostRuntime) -> Result<(), Fail> {
-    // Line 2 may be on either side of each letter, so in the end it isn't known any more that `s` comes after `r`. No line is between `s` and
-    // `r` all the same, and nothing is said of that.
-    let state = begin_with_two(rt.alloc())?;
-    let script = b"2a\n-\n.\n2a\n-\n.\n2a\n-\n.\n2a\n-\n.\n";
-    let stretches = stretches_in(rt.alloc(), state, script)?;
-    assert!(rt; stretches == Some(0));
+    assert_eq!(rt; empty_stretches(rt.alloc())?, Some(0));
     Ok(())
 }
 
@@ -635,79 +659,100 @@ fn begin_at_one(alloc: Global) -> Result<State, AllocError> {
     Ok(state)
 }
 
-/// Whether, after a script on it, something else is known of the lines from `y` up to `x`.
-fn is_otherwise_at_one(alloc: Global, script: &[u8], clear: bool) -> Result<bool, AllocError> {
-    match after_in(alloc, begin_at_one(alloc)?, script)? {
-        Some(state) => Ok(answers_otherwise(&state, Asked::Clear(b'y', b'x', b"A", clear))),
-        None => Ok(true),
-    }
+/// Whether, after a script on it, it is known that no line from `y` up to `x` matches A.
+fn is_clear_at_one(alloc: Global, script: &[u8]) -> Result<bool, AllocError> {
+    let mut state = begin_at_one(alloc)?;
+    let passed = passes(alloc, script, &mut state)?;
+    Ok(passed && !answers_otherwise(&state, Asked::Clear(b'y', b'x', b"A", true)))
 }
 
+/// No line is between, so only the text tells whether one between matches A.
 #[test]
 fn lines_that_come_before_the_next_one_are_known(rt: HostRuntime) -> Result<(), Fail> {
-    // No line is between, so only the text tells whether one between matches A.
-    let text = is_otherwise_at_one(rt.alloc(), b"'y+kx\n'ya\n-\n.\n", true)?;
-    assert!(rt; !text);
-    let other = is_otherwise_at_one(rt.alloc(), b"'y+kx\n'ya\nA\n.\n", false)?;
-    assert!(rt; !other);
+    let other = is_clear_at_one(rt.alloc(), b"'y+kx\n'ya\n-\n.\n")?;
+    let same = is_clear_at_one(rt.alloc(), b"'y+kx\n'ya\nA\n.\n")?;
+    assert!(rt; other && !same);
     Ok(())
 }
 
-/// What is known of the last new line after a script, beside a letter whose line alone matches `r`; A and B are watched for.
-fn last_new(
-    alloc: Global,
-    script: &[u8],
-    pattern: &[u8],
-) -> Result<Option<Option<bool>>, AllocError> {
-    let state = begin_with(alloc, b"r")?;
-    match after_in(alloc, state, script)? {
-        Some(state) => {
-            let name = Name::CURRENT_LINE;
-            Ok(Some(state.facts.told(&state.zone, name, pattern)))
+/// A script beside a letter whose line alone matches `r`, and what is known of the last new line after it; A and B are watched for.
+#[derive(Drop)]
+struct New {
+    script: &'static [u8],
+    asked: Asked,
+}
+
+#[rattlefmt::skip]
+static NEW: [New; 6] = [
+    New { script: b"$a\nA\n.\n", asked: Asked::Line(b'.', b"A", YES) },
+    New { script: b"$a\nA\n.\n", asked: Asked::Line(b'.', b"B", None) },
+    // That the last line doesn't match A either is said where something else is said of A.
+    New { script: b"$a\nA\n-\n.\n", asked: Asked::Line(b'.', b"A", None) },
+    New { script: b"$a\nA\n.\n$a\nB\n.\n", asked: Asked::Line(b'.', b"A", None) },
+    New { script: b"$a\nA\n.\nka\n$a\nB\n.\n", asked: Asked::Line(b'.', b"A", NO) },
+    // Facts speak of this one.
+    New { script: b"$a\nA\n.\n", asked: Asked::Line(b'.', b"r", NO) },
+];
+
+fn is_new_otherwise(alloc: Global, row: &New) -> Result<bool, AllocError> {
+    let mut state = begin_with(alloc, b"r")?;
+    let passed = passes(alloc, row.script, &mut state)?;
+    Ok(!passed || answers_otherwise(&state, row.asked))
+}
+
+fn first_new_otherwise(alloc: Global, rows: &[New]) -> Result<Option<usize>, AllocError> {
+    for (index, row) in rows.iter().enumerate() {
+        if is_new_otherwise(alloc, row)? {
+            return Ok(Some(index));
         }
-        None => Ok(None),
     }
+    Ok(None)
 }
 
 #[test]
 fn a_watched_pattern_that_no_new_line_matches_is_left_out(rt: HostRuntime) -> Result<(), Fail> {
-    let matched = last_new(rt.alloc(), b"$a\nA\n.\n", b"A")?;
-    assert!(rt; matched == Some(YES));
-    let other = last_new(rt.alloc(), b"$a\nA\n.\n", b"B")?;
-    assert!(rt; other == Some(None));
-    // That the last line doesn't match A either is said where something else is said of A.
-    let before = last_new(rt.alloc(), b"$a\nA\n-\n.\n", b"A")?;
-    assert!(rt; before == Some(None));
-    let left = last_new(rt.alloc(), b"$a\nA\n.\n$a\nB\n.\n", b"A")?;
-    assert!(rt; left == Some(None));
-    let marked = last_new(rt.alloc(), b"$a\nA\n.\nka\n$a\nB\n.\n", b"A")?;
-    assert!(rt; marked == Some(NO));
-    // Facts speak of this one.
-    let spoken = last_new(rt.alloc(), b"$a\nA\n.\n", b"r")?;
-    assert!(rt; spoken == Some(NO));
+    assert_eq!(rt; first_new_otherwise(rt.alloc(), &NEW)?, None);
     Ok(())
 }
 
 #[test]
 fn nothing_is_left_where_no_lines_are_followed(rt: HostRuntime) -> Result<(), Fail> {
     let kept = leaves_facts(rt.alloc(), b"=\n")?;
-    assert!(rt; !kept);
     let edited = leaves_facts(rt.alloc(), b"1d\n")?;
-    assert!(rt; !edited);
+    assert!(rt; !kept && !edited);
     Ok(())
+}
+
+/// Whether nothing is known of `y`, and what was known of `z`.
+fn knows_z_alone(state: &State) -> bool {
+    let (y, z) = (Asked::Line(b'y', b"A", None), Asked::Line(b'z', b"B", YES));
+    !answers_otherwise(state, y) && !answers_otherwise(state, z)
+}
+
+fn both_know_z_alone(one: &State, other: &State) -> Result<bool, AllocError> {
+    let joined = one.join(other)?;
+    if !knows_z_alone(&joined) {
+        return Ok(false);
+    }
+    let widened = one.widen(other)?;
+    Ok(knows_z_alone(&widened))
+}
+
+fn joined_with_unsure(alloc: Global, one: &State) -> Result<bool, AllocError> {
+    let mut other = begin(alloc)?;
+    other.marks.remove(Letter::at(24));
+    both_know_z_alone(one, &other)
+}
+
+fn unsure_is_forgotten(alloc: Global) -> Result<bool, AllocError> {
+    let one = begin(alloc)?;
+    joined_with_unsure(alloc, &one)
 }
 
 #[test]
 fn facts_of_letters_that_are_not_sure_on_both_sides_are_not_joined(
     rt: HostRuntime,
 ) -> Result<(), Fail> {
-    let one = begin(rt.alloc())?;
-    let mut other = begin(rt.alloc())?;
-    other.marks.remove(Letter::at(24));
-    let (y, z) = (Asked::Line(b'y', b"A", None), Asked::Line(b'z', b"B", YES));
-    let joined = one.join(&other)?;
-    assert!(rt; !answers_otherwise(&joined, y) && !answers_otherwise(&joined, z));
-    let widened = one.widen(&other)?;
-    assert!(rt; !answers_otherwise(&widened, y) && !answers_otherwise(&widened, z));
+    assert!(rt; unsure_is_forgotten(rt.alloc())?);
     Ok(())
 }

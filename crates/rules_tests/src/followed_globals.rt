@@ -2,10 +2,7 @@
 
 use crate::facts_after::{Asked, answers_otherwise, begin};
 use crate::globals::{begun, ended, entered};
-use crate::vouched_landmarks::{Answer, Row, row_answer};
 use crate::walking::{Unreached, pass_all};
-use cert_check::Version;
-use ed_base::Fault;
 use ed_rules::State;
 use std::alloc::Global;
 use std::test::Fail;
@@ -56,129 +53,76 @@ fn begins_otherwise(alloc: Global, row: &Beginning) -> Result<bool, Unreached> {
     entered_after(alloc, row, &before)
 }
 
+fn first_begins_otherwise(alloc: Global, rows: &[Beginning]) -> Result<Option<usize>, Unreached> {
+    for (index, row) in rows.iter().enumerate() {
+        if begins_otherwise(alloc, row)? {
+            return Ok(Some(index));
+        }
+    }
+    Ok(None)
+}
+
 #[test]
 fn a_list_begins_with_what_is_known_of_other_lines(rt: HostRuntime) -> Result<(), Fail> {
-    for row in &BEGINNING {
-        let otherwise = begins_otherwise(rt.alloc(), row)?;
-        assert!(rt; !otherwise, "{:?} {:?}", row.script, row.asked);
-    }
+    assert_eq!(rt; first_begins_otherwise(rt.alloc(), &BEGINNING)?, None);
     Ok(())
 }
 
-/// The state after a global command whose list leaves what is known as it is, and where undo brings the lines back that were before.
-fn undone(alloc: Global, script: &[u8], before: &State) -> Result<State, Unreached> {
-    let started = begun(alloc, script, before)?;
-    let mut end = ended(alloc, script, before, &started)?;
-    pass_all(alloc, b"u\n", &mut end)?;
-    Ok(end)
+/// Whether a state, and the one after undo, answer alike.
+fn both_answer(alloc: Global, end: &mut State, asked: Asked) -> Result<bool, Unreached> {
+    if answers_otherwise(end, asked) {
+        return Ok(false);
+    }
+    pass_all(alloc, b"u\n", end)?;
+    Ok(!answers_otherwise(end, asked))
 }
 
-/// Whether something else is known after the global command, or once it is undone.
-fn ends_otherwise(alloc: Global, script: &[u8], asked: Asked) -> Result<(bool, bool), Unreached> {
+/// The state after a global command whose list leaves what is known as it is.
+fn unmoved(alloc: Global, script: &[u8], before: &State) -> Result<State, Unreached> {
+    let started = begun(alloc, script, before)?;
+    ended(alloc, script, before, &started)
+}
+
+fn ends_so_after(
+    alloc: Global,
+    script: &[u8],
+    before: &State,
+    asked: Asked,
+) -> Result<bool, Unreached> {
+    let mut end = unmoved(alloc, script, before)?;
+    both_answer(alloc, &mut end, asked)
+}
+
+/// Whether this is known after the global command, and once undo has brought the lines back that were before.
+fn ends_so(alloc: Global, script: &[u8], asked: Asked) -> Result<bool, Unreached> {
     let before = begin(alloc)?;
-    let started = begun(alloc, script, &before)?;
-    let end = ended(alloc, script, &before, &started)?;
-    let back = undone(alloc, script, &before)?;
-    Ok((
-        answers_otherwise(&end, asked),
-        answers_otherwise(&back, asked),
-    ))
+    ends_so_after(alloc, script, &before, asked)
 }
 
 #[test]
 fn what_is_known_at_every_turn_is_known_after_the_last(rt: HostRuntime) -> Result<(), Fail> {
-    let printed = ends_otherwise(rt.alloc(), b"g/C/p\n", Asked::Line(b'y', b"A", YES))?;
-    assert_eq!(rt; printed, (false, false));
-    let deleted = ends_otherwise(rt.alloc(), b"v/C/d\n", Asked::Clear(b'y', b'z', b"B", true))?;
-    assert_eq!(rt; deleted, (false, false));
+    let printed = ends_so(rt.alloc(), b"g/C/p\n", Asked::Line(b'y', b"A", YES))?;
+    let deleted = ends_so(rt.alloc(), b"v/C/d\n", Asked::Clear(b'y', b'z', b"B", true))?;
+    assert!(rt; printed && deleted);
     Ok(())
+}
+
+fn enters_unknown(alloc: Global, before: &State) -> Result<bool, Unreached> {
+    let started = begun(alloc, b"g/C/p\n", before)?;
+    let entry = entered(alloc, b"g/C/p\n", &started)?;
+    Ok(entry.facts.are_none() && !entry.follows)
 }
 
 fn unfollowed(alloc: Global) -> Result<bool, Unreached> {
     let mut before = begin(alloc)?;
     before.forget_facts();
-    let started = begun(alloc, b"g/C/p\n", &before)?;
-    let entry = entered(alloc, b"g/C/p\n", &started)?;
-    Ok(entry.facts.are_none() && !entry.follows)
+    enters_unknown(alloc, &before)
 }
 
 #[test]
 fn nothing_is_known_of_a_line_that_is_taken_where_none_are_followed(
     rt: HostRuntime,
 ) -> Result<(), Fail> {
-    let unknown = unfollowed(rt.alloc())?;
-    assert!(rt; unknown);
-    Ok(())
-}
-
-const VOUCHED: Answer = Answer::Vouched(Version::Three, 1);
-
-const FIRST: Option<&[&[u8]]> = Some(&[b"/A/"]);
-
-#[rattlefmt::skip]
-static ROWS: [Row; 11] = [
-    // A list that changes no line leaves what is known of one.
-    Row { script: b"g/B/p\n/A/p\nQ\n", has: None, landmarks: FIRST, answer: VOUCHED },
-    Row { script: b"v/B/p\n/A/p\nQ\n", has: None, landmarks: FIRST, answer: VOUCHED },
-    Row { script: b"g/B/p\nu\n/A/p\nQ\n", has: None, landmarks: FIRST, answer: VOUCHED },
-    Row { script: b"g/B/p\n/A/p\nQ\n", has: None, landmarks: Some(&[]), answer: Answer::Fails(2, None, Fault::NoMatch) },
-    // Its commands know of that line too, at each turn.
-    Row { script: b"g/B//A/p\nQ\n", has: None, landmarks: FIRST, answer: VOUCHED },
-    Row { script: b"g/B/p\\\n/A/p\\\n/A/p\nQ\n", has: None, landmarks: FIRST, answer: VOUCHED },
-    Row { script: b"g/B//A/d\nQ\n", has: None, landmarks: FIRST, answer: Answer::Fails(1, Some(1), Fault::NoMatch) },
-    // Lines that come in leave it where it is.
-    Row { script: b"g/B/a\\\nx\n/A/d\nQ\n", has: None, landmarks: FIRST, answer: VOUCHED },
-    // It may be one of those that are changed, or deleted.
-    Row { script: b"g/A/s//x/\n/A/p\nQ\n", has: None, landmarks: FIRST, answer: Answer::Fails(2, None, Fault::NoMatch) },
-    Row { script: b"g/B/d\n/A/p\nQ\n", has: None, landmarks: FIRST, answer: Answer::Fails(2, None, Fault::NoMatch) },
-    // Undo may leave the lines as the list left them.
-    Row { script: b"g/B/d\nu\n/A/p\nQ\n", has: None, landmarks: FIRST, answer: Answer::Fails(3, None, Fault::NoMatch) },
-];
-
-/// The start of the rows of a global command that takes one line alone.
-const ONLY: Option<&[&[u8]]> = Some(&[b"only /A/ tail 1"]);
-
-const PAST_THE_END: Answer = Answer::Fails(1, Some(1), Fault::Address);
-
-#[rattlefmt::skip]
-static ONCE: [Row; 14] = [
-    // The list is run for the one line that matches, so that what is known of it is known of the current line.
-    Row { script: b"g/A/+1d\nQ\n", has: None, landmarks: ONLY, answer: VOUCHED },
-    Row { script: b"g/A/p\\\n+1d\nQ\n", has: None, landmarks: ONLY, answer: VOUCHED },
-    // It is current after the list too, unless another line matches.
-    Row { script: b"g/A/p\n+1p\nQ\n", has: None, landmarks: ONLY, answer: VOUCHED },
-    Row { script: b"g/A/p\n+1p\nQ\n", has: None, landmarks: Some(&[b"/A/ tail 1"]), answer: Answer::Fails(2, None, Fault::Address) },
-    // No line need come after it, or other lines may match.
-    Row { script: b"g/A/+1d\nQ\n", has: None, landmarks: Some(&[b"only /A/"]), answer: PAST_THE_END },
-    Row { script: b"g/A/+1d\nQ\n", has: None, landmarks: Some(&[b"/A/ tail 1"]), answer: PAST_THE_END },
-    // `v` takes the others, and addresses may leave it out.
-    Row { script: b"v/A/+1d\nQ\n", has: None, landmarks: ONLY, answer: PAST_THE_END },
-    Row { script: b"1,$g/A/+1d\nQ\n", has: None, landmarks: ONLY, answer: PAST_THE_END },
-    Row { script: b"1g/A/+1d\nQ\n", has: None, landmarks: ONLY, answer: PAST_THE_END },
-    // The pattern isn't given.
-    Row { script: b"/A/p\ng//+1d\nQ\n", has: None, landmarks: ONLY, answer: Answer::Fails(2, Some(1), Fault::Address) },
-    // What the list leaves goes on, and not what was known before it.
-    Row { script: b"g/A/+1d\ng/A/+1d\nQ\n", has: None, landmarks: Some(&[b"only /A/ tail 2"]), answer: VOUCHED },
-    Row { script: b"g/A/+1d\ng/A/+1d\nQ\n", has: None, landmarks: ONLY, answer: Answer::Fails(2, Some(1), Fault::Address) },
-    Row { script: b"g/A/d\n/A/p\nQ\n", has: None, landmarks: ONLY, answer: Answer::Fails(2, None, Fault::NoMatch) },
-    // Without landmarks no line is known.
-    Row { script: b"g/A/+1d\nQ\n", has: Some(&[b"A"]), landmarks: None, answer: PAST_THE_END },
-];
-
-#[test]
-fn a_global_whose_pattern_one_line_matches_is_run_once(rt: HostRuntime) -> Result<(), Fail> {
-    for (index, row) in ONCE.iter().enumerate() {
-        let answer = row_answer(rt.alloc(), row)?;
-        assert_eq!(rt; answer, Some(row.answer), "row {index}");
-    }
-    Ok(())
-}
-
-#[test]
-fn globals_keep_what_is_known_of_lines(rt: HostRuntime) -> Result<(), Fail> {
-    for (index, row) in ROWS.iter().enumerate() {
-        let answer = row_answer(rt.alloc(), row)?;
-        assert_eq!(rt; answer, Some(row.answer), "row {index}");
-    }
+    assert!(rt; unfollowed(rt.alloc())?);
     Ok(())
 }

@@ -1,14 +1,6 @@
-//! Tests of the public calls of `ed_rules`, `cert_check` and `analyser`, and of the starts that `hints` finds.
+//! Tests of public calls of `ed_rules` and `cert_check` that the program doesn't make alone, or whose values it doesn't tell.
 #![tactic(auto)]
 
-#[cfg(test)]
-mod analysing;
-#[cfg(test)]
-mod certifying;
-#[cfg(test)]
-mod checking;
-#[cfg(test)]
-mod choices;
 #[cfg(test)]
 mod collecting;
 #[cfg(test)]
@@ -18,31 +10,15 @@ mod facts_after;
 #[cfg(test)]
 mod followed_globals;
 #[cfg(test)]
-mod followed_lines;
-#[cfg(test)]
 mod globals;
 #[cfg(test)]
 mod landmark_starts;
 #[cfg(test)]
-mod landmarking;
-#[cfg(test)]
-mod like;
-#[cfg(test)]
 mod line_facts;
-#[cfg(test)]
-mod lists;
-#[cfg(test)]
-mod matching;
-#[cfg(test)]
-mod offered;
-#[cfg(test)]
-mod plain;
 #[cfg(test)]
 mod rewritten_lines;
 #[cfg(test)]
 mod rules;
-#[cfg(test)]
-mod some_lines;
 #[cfg(test)]
 mod stated_facts;
 #[cfg(test)]
@@ -52,14 +28,8 @@ mod text;
 #[cfg(test)]
 mod third_version;
 #[cfg(test)]
-mod told_apart;
-#[cfg(test)]
 mod told_facts;
 #[cfg(test)]
 mod versions;
 #[cfg(test)]
-mod vouched_landmarks;
-#[cfg(test)]
 mod walking;
-#[cfg(test)]
-mod widest;

@@ -1,6 +1,6 @@
 //! What is known of the line that `s` makes of one, in a run that follows single lines. Worked out by hand.
 
-use crate::facts_after::{Asked, add_clear, add_line, after_in, answers_otherwise};
+use crate::facts_after::{Asked, add_clear, add_line, answers_otherwise, passes};
 use crate::walking::{Start, lines, named, state_of};
 use ed_base::Letter;
 use ed_rules::State;
@@ -20,42 +20,45 @@ fn begin(alloc: Global) -> Result<State, AllocError> {
     Ok(state)
 }
 
-/// `y` is the first line that begins with Port, and it has a 22.
-fn port(alloc: Global) -> Result<State, AllocError> {
-    let mut state = begin(alloc)?;
-    add_line(&mut state, b'y', b"^Port", true)?;
-    add_line(&mut state, b'y', b"22", true)?;
-    add_clear(&mut state, b'0', b'y', b"^Port")?;
-    Ok(state)
+/// What is known as a script begins.
+#[derive(Clone, Copy)]
+enum Beginning {
+    /// `y` is the first line that begins with Port, and it has a 22.
+    Port,
+    /// `y` begins with B and has an x, and `z` is the first line that begins with C.
+    Three,
+    /// The same, but that `y` may have its B elsewhere.
+    ThreeOpen,
+    /// `y` is a comment that begins with L and has a localhost.
+    Comment,
 }
 
-/// `y` begins with B and has an x, and `z` is the first line that begins with C.
-fn three(alloc: Global) -> Result<State, AllocError> {
-    let mut state = begin(alloc)?;
-    add_line(&mut state, b'y', b"^B", true)?;
-    add_line(&mut state, b'y', b"x", true)?;
-    add_line(&mut state, b'z', b"^C", true)?;
-    add_clear(&mut state, b'0', b'z', b"^C")?;
-    Ok(state)
+fn know_port(state: &mut State) -> Result<(), AllocError> {
+    add_line(state, b'y', b"^Port", true)?;
+    add_line(state, b'y', b"22", true)?;
+    add_clear(state, b'0', b'y', b"^Port")
 }
 
-/// The same, but that `y` may have its B elsewhere.
-fn three_open(alloc: Global) -> Result<State, AllocError> {
-    let mut state = begin(alloc)?;
-    add_line(&mut state, b'y', b"B", true)?;
-    add_line(&mut state, b'y', b"x", true)?;
-    add_line(&mut state, b'z', b"^C", true)?;
-    add_clear(&mut state, b'0', b'z', b"^C")?;
-    Ok(state)
+fn know_three(state: &mut State, first: &[u8]) -> Result<(), AllocError> {
+    add_line(state, b'y', first, true)?;
+    add_line(state, b'y', b"x", true)?;
+    add_line(state, b'z', b"^C", true)?;
+    add_clear(state, b'0', b'z', b"^C")
 }
 
-/// `y` is a comment that begins with L and has a localhost.
-fn comment(alloc: Global) -> Result<State, AllocError> {
-    let mut state = begin(alloc)?;
-    add_line(&mut state, b'y', b"^#", true)?;
-    add_line(&mut state, b'y', b"^#L", true)?;
-    add_line(&mut state, b'y', b"localhost", true)?;
-    Ok(state)
+fn know_comment(state: &mut State) -> Result<(), AllocError> {
+    add_line(state, b'y', b"^#", true)?;
+    add_line(state, b'y', b"^#L", true)?;
+    add_line(state, b'y', b"localhost", true)
+}
+
+fn know(state: &mut State, beginning: Beginning) -> Result<(), AllocError> {
+    match beginning {
+        Beginning::Port => know_port(state),
+        Beginning::Three => know_three(state, b"^B"),
+        Beginning::ThreeOpen => know_three(state, b"B"),
+        Beginning::Comment => know_comment(state),
+    }
 }
 
 /// A script, and what is known then.
@@ -122,41 +125,46 @@ static COMMENT: [Row; 4] = [
     Row { script: b"'ys/^#//\ns/localhost/x/\n", asked: Asked::Line(b'.', b"localhost", None) },
 ];
 
+fn passes_knowing(
+    alloc: Global,
+    beginning: Beginning,
+    script: &[u8],
+    state: &mut State,
+) -> Result<bool, AllocError> {
+    know(state, beginning)?;
+    passes(alloc, script, state)
+}
+
 /// Whether a script comes to something else than its row says.
-fn is_otherwise(alloc: Global, begun: State, row: &Row) -> Result<bool, AllocError> {
-    match after_in(alloc, begun, row.script)? {
-        Some(state) => Ok(answers_otherwise(&state, row.asked)),
-        None => Ok(true),
+fn is_otherwise(alloc: Global, beginning: Beginning, row: &Row) -> Result<bool, AllocError> {
+    let mut state = begin(alloc)?;
+    let passed = passes_knowing(alloc, beginning, row.script, &mut state)?;
+    Ok(!passed || answers_otherwise(&state, row.asked))
+}
+
+/// The first row whose script comes to something else.
+fn first_otherwise(
+    alloc: Global,
+    beginning: Beginning,
+    rows: &[Row],
+) -> Result<Option<usize>, AllocError> {
+    for (index, row) in rows.iter().enumerate() {
+        if is_otherwise(alloc, beginning, row)? {
+            return Ok(Some(index));
+        }
     }
+    Ok(None)
 }
 
 #[test]
-fn the_beginning_of_a_line_stays_known(rt: HostRuntime) -> Result<(), Fail> {
-    for row in &PORT {
-        let otherwise = is_otherwise(rt.alloc(), port(rt.alloc())?, row)?;
-        assert!(rt; !otherwise, "{:?} {:?}", row.script, row.asked);
-    }
-    Ok(())
-}
-
-#[test]
-fn a_stretch_goes_on_over_a_line_that_begins_otherwise(rt: HostRuntime) -> Result<(), Fail> {
-    for row in &THREE {
-        let otherwise = is_otherwise(rt.alloc(), three(rt.alloc())?, row)?;
-        assert!(rt; !otherwise, "{:?} {:?}", row.script, row.asked);
-    }
-    for row in &THREE_OPEN {
-        let otherwise = is_otherwise(rt.alloc(), three_open(rt.alloc())?, row)?;
-        assert!(rt; !otherwise, "{:?} {:?}", row.script, row.asked);
-    }
-    Ok(())
-}
-
-#[test]
-fn a_word_apart_from_what_is_replaced_stays_known(rt: HostRuntime) -> Result<(), Fail> {
-    for row in &COMMENT {
-        let otherwise = is_otherwise(rt.alloc(), comment(rt.alloc())?, row)?;
-        assert!(rt; !otherwise, "{:?} {:?}", row.script, row.asked);
-    }
+fn what_a_substitution_leaves_of_a_line_stays_known(rt: HostRuntime) -> Result<(), Fail> {
+    let alloc = rt.alloc();
+    assert_eq!(rt; first_otherwise(alloc, Beginning::Port, &PORT)?, None);
+    assert_eq!(rt; first_otherwise(alloc, Beginning::Three, &THREE)?, None);
+    assert_eq!(rt;
+        first_otherwise(alloc, Beginning::ThreeOpen, &THREE_OPEN)?,
+        None
+    );
+    assert_eq!(rt; first_otherwise(alloc, Beginning::Comment, &COMMENT)?, None);
     Ok(())
 }

@@ -1,116 +1,18 @@
-//! What the rules need of commands, and what they leave.
+//! Joined, widened and kept states.
 
-use crate::walking::{Start, Unreached, lines, pass_all, state_of, walk};
-use ed_base::{Fault, Letter};
-use ed_rules::{Changed, State};
+use crate::walking::{Start, Unreached, lines, pass_all, state_of};
+use ed_base::Letter;
+use ed_rules::State;
 use std::alloc::{AllocError, Global};
 use std::test::Fail;
 use zones::Name;
 
-/// A script, and its first command whose needs fail.
-#[derive(Drop)]
-struct Failing {
-    script: &'static [u8],
-    start: Start,
-    failing: Option<(usize, Fault)>,
-}
-
-#[rattlefmt::skip]
-static FAILING: [Failing; 13] = [
-    Failing { script: b"1d\n", start: lines!(0, Some(3)), failing: Some((1, Fault::Address)) },
-    Failing { script: b"2d\n$p\n3p\n", start: lines!(3, Some(3)), failing: Some((3, Fault::Address)) },
-    Failing { script: b"2ka\n1,2d\n'ap\n", start: lines!(2, None), failing: Some((3, Fault::Mark)) },
-    Failing { script: b"/x/p\n", start: lines!(1, None), failing: Some((1, Fault::NoMatch)) },
-    Failing { script: b"/x*/p\n", start: lines!(0, None), failing: Some((1, Fault::NoMatch)) },
-    Failing { script: b"//p\n", start: lines!(1, None), failing: Some((1, Fault::Pattern)) },
-    Failing { script: b"1m$\n", start: lines!(1, None), failing: Some((1, Fault::Destination)) },
-    Failing { script: b"1d\n.p\n", start: lines!(1, Some(1)), failing: Some((2, Fault::Address)) },
-    Failing { script: b"/x*/,p\n", start: lines!(1, None), failing: Some((1, Fault::Address)) },
-    Failing { script: b"1d\nq\n", start: lines!(1, Some(3)), failing: Some((2, Fault::Unsaved)) },
-    Failing { script: b"u\n", start: lines!(1, None), failing: Some((1, Fault::Undo)) },
-    // A global command remembers its pattern.
-    Failing { script: b"v//d\n", start: lines!(1, None), failing: Some((1, Fault::Pattern)) },
-    Failing { script: b"g/x/d\nv//d\n", start: lines!(1, None), failing: None },
-];
-
-fn first_failing(alloc: Global, row: &Failing) -> Result<Option<(usize, Fault)>, AllocError> {
-    let mut state = state_of(alloc, row.start)?;
-    walk(alloc, row.script, &mut state)
-}
-
-#[test]
-fn the_first_need_that_fails_is_told(rt: HostRuntime) -> Result<(), Fail> {
-    for row in &FAILING {
-        let failing = first_failing(rt.alloc(), row)?;
-        assert_eq!(rt; failing, row.failing, "{:?}", row.script);
-    }
-    Ok(())
-}
-
-/// A script, and what is known of the number of lines that it leaves, and of whether the buffer is changed.
-#[derive(Drop)]
-struct Bounds {
-    script: &'static [u8],
-    start: Start,
-    fewest: Option<i64>,
-    most: Option<i64>,
-    changed: Changed,
-}
-
-#[rattlefmt::skip]
-static BOUNDS: [Bounds; 10] = [
-    Bounds { script: b"", start: lines!(1, Some(3)), fewest: Some(1), most: Some(3), changed: Changed::NO },
-    Bounds { script: b"1d\n", start: lines!(1, Some(3)), fewest: Some(0), most: Some(2), changed: Changed::YES },
-    Bounds { script: b"2ka\n1d\n'ap\nQ\n", start: lines!(2, None), fewest: Some(1), most: None, changed: Changed::YES },
-    Bounds { script: b"0a\nx\n", start: lines!(0, Some(0)), fewest: Some(1), most: Some(1), changed: Changed::YES },
-    Bounds { script: b"1,2t$\n1,3j\n", start: lines!(3, Some(3)), fewest: Some(3), most: Some(3), changed: Changed::YES },
-    Bounds { script: b"/x*/;p\n", start: lines!(1, None), fewest: Some(1), most: None, changed: Changed::NO },
-    Bounds { script: b"1,2c\nz\n.\n", start: lines!(3, Some(3)), fewest: Some(2), most: Some(2), changed: Changed::YES },
-    // Undo brings back the deleted line, and a second one takes it away again.
-    Bounds { script: b"1d\nu\n", start: lines!(1, None), fewest: Some(1), most: None, changed: Changed::YES },
-    Bounds { script: b"1d\nu\n1p\n", start: lines!(1, None), fewest: Some(1), most: None, changed: Changed::YES },
-    Bounds { script: b"1d\nu\nu\n", start: lines!(1, None), fewest: Some(0), most: None, changed: Changed::YES },
-];
-
-/// What a state that is taken through the script tells otherwise than the row.
-fn told_otherwise(
-    alloc: Global,
-    row: &Bounds,
-    state: &mut State,
-) -> Result<Option<&'static str>, Unreached> {
-    pass_all(alloc, row.script, state)?;
-    if state.zone.least(Name::LAST_LINE, Name::ZERO) != row.fewest {
-        return Ok(Some("the fewest lines"));
-    }
-    if state.zone.bound(Name::LAST_LINE, Name::ZERO) != row.most {
-        return Ok(Some("the most lines"));
-    }
-    if state.changed != row.changed {
-        return Ok(Some("whether the buffer is changed"));
-    }
-    Ok(None)
-}
-
-fn row_told_otherwise(alloc: Global, row: &Bounds) -> Result<Option<&'static str>, Unreached> {
-    let mut state = state_of(alloc, row.start)?;
-    told_otherwise(alloc, row, &mut state)
-}
-
-#[test]
-fn the_number_of_lines_is_bounded(rt: HostRuntime) -> Result<(), Fail> {
-    for row in &BOUNDS {
-        let otherwise = row_told_otherwise(rt.alloc(), row)?;
-        assert_eq!(rt; otherwise, None, "{:?}", row.script);
-    }
-    Ok(())
-}
-
 /// Three scripts that remember patterns, mark lines and change the buffer.
-pub(crate) const SEARCHING: &[u8] = b"/x*/ka\n//d\n$p\nQ\n";
+const SEARCHING: &[u8] = b"/x*/ka\n//d\n$p\nQ\n";
 
-pub(crate) const CHANGING: &[u8] = b"1,2c\none\ntwo\n.\n1,2j\n.t$\nQ\n";
+const CHANGING: &[u8] = b"1,2c\none\ntwo\n.\n1,2j\n.t$\nQ\n";
 
-pub(crate) const MOVING: &[u8] = b"3m0\n2kb\n?a*?l\n'b=\nQ\n";
+const MOVING: &[u8] = b"3m0\n2kb\n?a*?l\n'b=\nQ\n";
 
 static SCRIPTS: [&[u8]; 3] = [SEARCHING, CHANGING, MOVING];
 
@@ -159,11 +61,18 @@ fn script_is_covered(alloc: Global, script: &[u8]) -> Result<bool, Unreached> {
     ended_and_begun_are_covered(alloc, script, &begun)
 }
 
+fn first_not_covered(alloc: Global, scripts: &[&[u8]]) -> Result<Option<usize>, Unreached> {
+    for (index, script) in scripts.iter().enumerate() {
+        if !script_is_covered(alloc, script)? {
+            return Ok(Some(index));
+        }
+    }
+    Ok(None)
+}
+
 #[test]
 fn joined_and_widened_states_cover_both(rt: HostRuntime) -> Result<(), Fail> {
-    for script in &SCRIPTS {
-        assert!(rt; script_is_covered(rt.alloc(), script)?, "{script:?}");
-    }
+    assert_eq!(rt; first_not_covered(rt.alloc(), &SCRIPTS)?, None);
     Ok(())
 }
 

@@ -61,7 +61,7 @@ fn knowing_and_plain_joined(alloc: Global) -> Result<[(usize, usize); 3], AllocE
 #[test]
 fn a_join_keeps_what_both_states_know(rt: HostRuntime) -> Result<(), Fail> {
     let left = knowing_and_plain_joined(rt.alloc())?;
-    assert_eq!(rt; left, [(1, 1), (0, 0), (0, 0)]);
+    assert!(rt; left == [(1, 1), (0, 0), (0, 0)]);
     Ok(())
 }
 
@@ -84,7 +84,7 @@ fn knowing_and_plain_cover(alloc: Global) -> Result<[(bool, bool); 3], AllocErro
 #[test]
 fn a_state_covers_what_knows_no_less(rt: HostRuntime) -> Result<(), Fail> {
     let covers = knowing_and_plain_cover(rt.alloc())?;
-    assert_eq!(rt; covers, [(true, true), (false, false), (true, true)]);
+    assert!(rt; covers == [(true, true), (false, false), (true, true)]);
     Ok(())
 }
 
@@ -95,45 +95,60 @@ fn edge(mark: Name) -> u8
     mark.place() as u8
 }
 
-/// A state that knows that no line after a mark's matches.
-fn clear_after(alloc: Global, mark: Name) -> Result<State, AllocError> {
-    let mut state = plain(alloc)?;
-    let pattern = Bytes::from_slice(alloc, b"x")?;
-    state.facts.clear.push(ClearStretch {
+fn clear_from(mark: Name, facts: &mut LineFacts) -> Result<(), AllocError> {
+    let pattern = Bytes::from_slice(*facts.clear.allocator(), b"x")?;
+    facts.clear.push(ClearStretch {
         after: edge(mark),
         before: ClearStretch::END,
         pattern,
     })?;
+    Ok(())
+}
+
+/// A state that knows that no line after a mark's matches.
+fn clear_after(alloc: Global, mark: Name) -> Result<State, AllocError> {
+    let mut state = plain(alloc)?;
+    clear_from(mark, &mut state.facts)?;
     Ok(state)
 }
 
-/// Three such states, of `c`, of `b` and of `a`. By the second `b` stands no later than `c`, by the third also `a` no later than `b`,
-/// and what follows from the two isn't noted. Last comes the first once more, without its fact.
-fn clear_in_two_steps(alloc: Global) -> Result<[(bool, bool); 4], AllocError> {
+/// By the second state `b` stands no later than `c`, by the third also `a` no later than `b`, and what follows from the two isn't noted.
+fn put_in_order(second: &mut State, third: &mut State) {
     let (a, b, c) = (
         Name::of(Letter::at(0)),
         Name::of(Letter::at(1)),
         Name::of(Letter::at(2)),
     );
-    let mut first = clear_after(alloc, c)?;
-    let mut second = clear_after(alloc, b)?;
     second.zone.put(b, c, Some(0));
-    let mut third = clear_after(alloc, a)?;
     third.zone.put(a, b, Some(0));
     third.zone.put(b, c, Some(0));
-    let by_facts = covers(&first, &third)?;
-    let steps = (covers(&first, &second)?, covers(&second, &third)?);
+}
+
+/// Which covers which; last comes the first once more, without its fact.
+fn covers_in_order(
+    first: &mut State,
+    second: &mut State,
+    third: &mut State,
+) -> Result<[(bool, bool); 4], AllocError> {
+    put_in_order(second, third);
+    let by_facts = covers(first, third)?;
+    let steps = (covers(first, second)?, covers(second, third)?);
     first.forget_facts();
-    Ok([steps.0, steps.1, by_facts, covers(&first, &third)?])
+    Ok([steps.0, steps.1, by_facts, covers(first, third)?])
+}
+
+/// Three such states, of `c`, of `b` and of `a`.
+fn clear_in_two_steps(alloc: Global) -> Result<[(bool, bool); 4], AllocError> {
+    let mut first = clear_after(alloc, Name::of(Letter::at(2)))?;
+    let mut second = clear_after(alloc, Name::of(Letter::at(1)))?;
+    let mut third = clear_after(alloc, Name::of(Letter::at(0)))?;
+    covers_in_order(&mut first, &mut second, &mut third)
 }
 
 #[test]
 fn a_fact_that_follows_in_two_steps_is_not_covered(rt: HostRuntime) -> Result<(), Fail> {
     let covers = clear_in_two_steps(rt.alloc())?;
-    assert_eq!(rt;
-        covers,
-        [(true, true), (true, true), (false, false), (true, true)]
-    );
+    assert!(rt; covers == [(true, true), (true, true), (false, false), (true, true)]);
     Ok(())
 }
 
@@ -161,11 +176,17 @@ fn left_by(alloc: Global, script: &[u8]) -> Result<(usize, usize), Unreached> {
     Ok(counted(&state))
 }
 
+fn first_otherwise(alloc: Global, rows: &[Leaving]) -> Result<Option<usize>, Unreached> {
+    for (index, row) in rows.iter().enumerate() {
+        if left_by(alloc, row.script)? != row.left {
+            return Ok(Some(index));
+        }
+    }
+    Ok(None)
+}
+
 #[test]
 fn a_command_leaves_nothing_known_but_of_what_undo_keeps(rt: HostRuntime) -> Result<(), Fail> {
-    for row in &LEAVING {
-        let left = left_by(rt.alloc(), row.script)?;
-        assert_eq!(rt; left, row.left, "{:?}", row.script);
-    }
+    assert_eq!(rt; first_otherwise(rt.alloc(), &LEAVING)?, None);
     Ok(())
 }

@@ -1,78 +1,9 @@
-//! Texts of certificates of version 3.
+//! Texts of certificates of version 3: what is read of single lines, and lines that may not stand.
 
-use crate::text::text_otherwise;
-use cert_check::{CertFault, Certificate, LineKind, Version, wanted};
+use crate::versions::{PLAIN, TOLD};
+use cert_check::{CertFault, Certificate, LineKind, wanted};
 use std::alloc::{AllocError, Global};
 use std::test::Fail;
-
-/// Two chains, facts of a line with a name of its own, and the same of an earlier buffer.
-const TOLD: &[u8] = b"ed-certificate 3
-path =F
-start 1 any
-has
-at =/a/;%20only%20/b/ =3
-end
-zone
-marks z
-has
-lines .-=b z+=a
-clear 0-z=a z-$+=b
-patterns -
-replacements none
-names =F
-changed no
-undo nothing was
-old-zone
-old-marks y
-old-has =c
-old-lines y+=c
-old-clear
-final 0 any
-writes
-";
-
-/// No chain and no fact.
-const PLAIN: &[u8] = b"ed-certificate 3
-path -
-start 0 any
-has
-at
-end
-zone
-marks
-has
-lines
-clear
-patterns -
-replacements none
-names -
-changed no
-undo nothing
-final 0 any
-writes
-";
-
-static READ: [&[u8]; 2] = [TOLD, PLAIN];
-
-fn written_again_otherwise(
-    alloc: Global,
-    text: &[u8],
-) -> Result<Result<Option<&'static str>, AllocError>, CertFault> {
-    let certificate = Certificate::read(alloc, text)?;
-    Ok(text_otherwise(&certificate, text))
-}
-
-#[test]
-fn texts_of_version_three_are_read_and_written_again(rt: HostRuntime) -> Result<(), Fail> {
-    for (index, text) in READ.iter().enumerate() {
-        assert_eq!(rt;
-            written_again_otherwise(rt.alloc(), text)??,
-            None,
-            "row {index}"
-        );
-    }
-    Ok(())
-}
 
 /// How many chains and facts of lines are read, and whether the state at the end follows lines.
 fn counts_in(alloc: Global, text: &[u8]) -> Result<(usize, usize, usize, bool), CertFault> {
@@ -88,35 +19,10 @@ fn counts_in(alloc: Global, text: &[u8]) -> Result<(usize, usize, usize, bool), 
 
 #[test]
 fn chains_and_facts_are_read(rt: HostRuntime) -> Result<(), Fail> {
-    assert_eq!(rt; counts_in(rt.alloc(), TOLD)?, (2, 2, 2, true));
-    assert_eq!(rt; counts_in(rt.alloc(), PLAIN)?, (0, 0, 0, true));
-    Ok(())
-}
-
-/// Whether the certificate of a text still has one in another version.
-fn has_text_in(alloc: Global, text: &[u8], version: Version) -> Result<bool, CertFault> {
-    let mut certificate = Certificate::read(alloc, text)?;
-    certificate.version = version;
-    Ok(certificate.has_text())
-}
-
-/// Versions 1 and 2 follow no single lines.
-#[test]
-fn what_follows_lines_has_no_text_of_the_versions_before(rt: HostRuntime) -> Result<(), Fail> {
-    for (index, text) in READ.iter().enumerate() {
-        assert!(rt;
-            !has_text_in(rt.alloc(), text, Version::One)?,
-            "row {index}"
-        );
-        assert!(rt;
-            !has_text_in(rt.alloc(), text, Version::Two)?,
-            "row {index}"
-        );
-        assert!(rt;
-            has_text_in(rt.alloc(), text, Version::Three)?,
-            "row {index}"
-        );
-    }
+    let told = counts_in(rt.alloc(), TOLD)?;
+    assert!(rt; told == (2, 2, 2, true));
+    let plain = counts_in(rt.alloc(), PLAIN)?;
+    assert!(rt; plain == (0, 0, 0, true));
     Ok(())
 }
 
@@ -129,15 +35,7 @@ struct Refused {
 }
 
 #[rattlefmt::skip]
-static REFUSED: [Refused; 17] = [
-    // The line of the chains is left out, or stands in version 2.
-    Refused { text: b"ed-certificate 3\npath -\nstart 0 any\nhas\nend\n", line: 5, kind: LineKind::At },
-    Refused { text: b"ed-certificate 2\npath -\nstart 0 any\nhas\nat\n", line: 5, kind: LineKind::NoteOrEnd },
-    // A text spells no chain: its pattern isn't closed, it is empty, or it has a newline.
-    Refused { text: b"ed-certificate 3\npath -\nstart 0 any\nhas\nat =/a\n", line: 5, kind: LineKind::At },
-    Refused { text: b"ed-certificate 3\npath -\nstart 0 any\nhas\nat =3 =\n", line: 5, kind: LineKind::At },
-    Refused { text: b"ed-certificate 3\npath -\nstart 0 any\nhas\nat =3%0a\n", line: 5, kind: LineKind::At },
-    Refused { text: b"ed-certificate 3\npath -\nstart 0 any\nhas\nat -\n", line: 5, kind: LineKind::At },
+static REFUSED: [Refused; 11] = [
     // The two lines of facts are left out, or stand in version 2.
     Refused { text: b"ed-certificate 3\npath -\nstart 0 any\nhas\nat\nend\nzone\nmarks\nhas\npatterns -\n", line: 10, kind: LineKind::Lines },
     Refused { text: b"ed-certificate 3\npath -\nstart 0 any\nhas\nat\nend\nzone\nmarks\nhas\nlines\npatterns -\n", line: 11, kind: LineKind::Clear },
@@ -163,14 +61,17 @@ fn refused_at(alloc: Global, text: &[u8]) -> Result<Option<(usize, LineKind)>, A
     }
 }
 
+fn first_otherwise(alloc: Global, rows: &[Refused]) -> Result<Option<usize>, AllocError> {
+    for (index, row) in rows.iter().enumerate() {
+        if refused_at(alloc, row.text)? != Some((row.line, row.kind)) {
+            return Ok(Some(index));
+        }
+    }
+    Ok(None)
+}
+
 #[test]
 fn lines_that_may_not_stand_are_told(rt: HostRuntime) -> Result<(), Fail> {
-    for (index, row) in REFUSED.iter().enumerate() {
-        assert_eq!(rt;
-            refused_at(rt.alloc(), row.text)?,
-            Some((row.line, row.kind)),
-            "row {index}"
-        );
-    }
+    assert_eq!(rt; first_otherwise(rt.alloc(), &REFUSED)?, None);
     Ok(())
 }

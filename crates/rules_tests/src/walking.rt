@@ -6,10 +6,9 @@ use ed_syntax::{Command, read_script};
 use std::alloc::{AllocError, Global};
 use zones::Name;
 
-/// What a run starts with: a file F of so many lines, or no file.
+/// What a run starts with: a file F of so many lines.
 #[derive(Clone, Copy)]
 pub(crate) struct Start {
-    pub named: bool,
     pub min: u64,
     pub max: Option<u64>,
 }
@@ -18,7 +17,6 @@ pub(crate) struct Start {
 macro_rules! lines {
     ($min:expr, $max:expr) => {
         Start {
-            named: true,
             min: $min,
             max: $max,
         }
@@ -27,25 +25,9 @@ macro_rules! lines {
 
 pub(crate) use lines;
 
-/// A start without a file.
-pub(crate) const UNNAMED: Start = Start {
-    named: false,
-    min: 0,
-    max: Some(0),
-};
-
-/// The path of a start, where it has one.
-pub(crate) fn path_of(alloc: Global, start: Start) -> Result<Option<Bytes>, AllocError> {
-    if start.named {
-        Ok(Some(Bytes::from_slice(alloc, b"F")?))
-    } else {
-        Ok(None)
-    }
-}
-
 /// The state at the start.
 pub(crate) fn state_of(alloc: Global, start: Start) -> Result<State, AllocError> {
-    let path = path_of(alloc, start)?;
+    let path = Some(Bytes::from_slice(alloc, b"F")?);
     State::start(alloc, &path, start.min, start.max, &Texts::none(alloc))
 }
 
@@ -65,24 +47,24 @@ fn pass(
     Ok(None)
 }
 
-/// Takes a state through commands, up to the first whose needs fail.
-fn walk_commands(
-    alloc: Global,
+/// The same with room of its own.
+pub(crate) fn walk_commands(
     commands: &[Command],
     state: &mut State,
+    watch: &Watch,
 ) -> Result<Option<(usize, Fault)>, AllocError> {
     let mut left = state.try_copy()?;
-    pass(commands, state, &mut left, &Watch::none(alloc))
+    pass(commands, state, &mut left, watch)
 }
 
 /// Takes a state through a script, up to the first command whose needs fail.
-pub(crate) fn walk(
+fn walk(
     alloc: Global,
     script: &[u8],
     state: &mut State,
 ) -> Result<Option<(usize, Fault)>, AllocError> {
     let script = read_script(alloc, script)?;
-    walk_commands(alloc, script.commands.as_slice(), state)
+    walk_commands(script.commands.as_slice(), state, &Watch::none(alloc))
 }
 
 /// Why what is asked for isn't reached.
