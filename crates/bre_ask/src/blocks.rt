@@ -11,7 +11,7 @@ use std::io::Read;
 use std::{io, str};
 
 /// How long the first line is, without its newline.
-fn size_of_line(text: &[u8]) -> usize
+pub(crate) fn size_of_line(text: &[u8]) -> usize
     ensures within { result ≤ length text.now }
 {
     match memchr(b'\n', text) {
@@ -21,7 +21,7 @@ fn size_of_line(text: &[u8]) -> usize
 }
 
 /// How long the lines are up to the first empty one.
-fn size_of_block(text: &[u8]) -> usize
+pub(crate) fn size_of_block(text: &[u8]) -> usize
     ensures within { result ≤ length text.now }
 {
     let mut start = 0;

@@ -1,4 +1,4 @@
-//! Counts the lines of standard input in which a pattern has a match, or tells where patterns match texts.
+//! Counts the lines of standard input in which a pattern has a match, or tells where patterns match texts, or which texts they match.
 #![tactic(auto)]
 
 mod blocks;
@@ -6,13 +6,14 @@ mod counting;
 mod finder;
 mod pattern;
 mod places;
+mod witnesses;
 
 use crate::counting::Counted;
 use crate::finder::Means;
 use std::{env, io};
 
 const USAGE: &str =
-    "usage: bre_ask {count|count_searched|count_anew|all|all_searched} PATTERN | bre_ask {places|places_searched|blocks|blocks_searched}";
+    "usage: bre_ask {count|count_searched|count_anew|all|all_searched} PATTERN | bre_ask {places|places_searched|blocks|blocks_searched|witnesses}";
 
 /// What a task counts, and how, if it counts.
 fn count_task(task: &str) -> Option<(Counted, Means)> {
@@ -43,6 +44,9 @@ fn main(rt: HostRuntime) -> io::Result<()> {
     }
     if task.as_str() == "blocks_searched" {
         return blocks::tell(&rt, Means::Searcher);
+    }
+    if task.as_str() == "witnesses" {
+        return witnesses::tell(&rt);
     }
     if let Some((counted, means)) = count_task(task.as_str()) {
         if let Some(pattern) = words.next() {

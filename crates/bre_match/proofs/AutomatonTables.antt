@@ -38,7 +38,7 @@ alike s x t y le high e f = record {
   end = at_end s x le ∙ ap (λ o. elim o [ None ↦ true | Some b ↦ false ]) e ∙ sym (at_end t y high);
 }
 
-same_transition : (p : Part) (ms : List (Option ℕ)) (s : List ℕ) (x : ℕ) (t : List ℕ) (y : ℕ) → Alike s x t y →
+pub same_transition : (p : Part) (ms : List (Option ℕ)) (s : List ℕ) (x : ℕ) (t : List ℕ) (y : ℕ) → Alike s x t y →
     transition p ms s x ≡ transition p ms t y
 same_transition p ms s x t y h =
     ap (λ (o : Option ℕ). (is_some o, as_state (marks_of (step (fill p ms) s x (Some 0))))) (same_peek (fill p ms) s x t y (Some 0) h)

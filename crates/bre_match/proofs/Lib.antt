@@ -46,3 +46,6 @@ pub mod Automata
 pub mod AutomatonTables
 pub mod AutomatonRuns
 pub mod EndRuns
+pub mod witnesses
+mod Worked
+mod WitnessRows

@@ -9,6 +9,8 @@ pub mod Learning
 -- laws of first ways, and which of them count as one
 pub mod Alike
 pub mod Laws
+-- what several patterns answer of one text
+pub mod Witness
 -- these only serve clauses inside the crate
 pub mod Runs
 pub mod Listed
@@ -32,3 +34,6 @@ pub mod Tables
 pub mod States
 pub mod Automata
 pub mod Scans
+pub mod ByteKinds
+pub mod Watches
+pub mod ClosedSets

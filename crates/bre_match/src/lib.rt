@@ -48,6 +48,7 @@ mod state;
 mod table;
 mod transition;
 mod turn;
+mod witness;
 mod word;
 
 use crate::asked::asked_groups;
@@ -69,6 +70,7 @@ pub use learned::Learned;
 pub use searcher::Searcher;
 pub use short_word::Word;
 use std::alloc::{AllocError, Global};
+pub use witness::{Answer, Witness, find_witness};
 
 /// Where a pattern matches a text.
 #[derive(Clone, Copy)]

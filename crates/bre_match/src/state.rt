@@ -1,8 +1,9 @@
 //! A state of an automaton: the marks of a pattern at a place.
 
-ghost use Rattle.std.specs.Prelude.{◌≡◌, [], true};
+ghost use Rattle.std.specs.Prelude.{◌≡◌, [], true, IfOk};
 ghost use Rattle.bre_match.specs.States.{none_marked, as_state};
 
+use std::alloc::{AllocError, Global};
 use std::marker::Model;
 
 /// The starts for which an automaton goes through a text: every place, or only the first one that it comes to.
@@ -40,6 +41,15 @@ impl State {
         ensures value { result.now ≡ self.now }
     {
         self.marks.as_slice()
+    }
+
+    /// An equal state.
+    pub(crate) fn try_copy(&self, alloc: Global) -> Result<State, AllocError>
+        ensures value { IfOk result (λ copy. copy ≡ self.now) }
+    {
+        Ok(State {
+            marks: self.marks.as_slice().to_vec(alloc)?,
+        })
     }
 
     /// Whether it has no marks at all. It tells no more than its clause.

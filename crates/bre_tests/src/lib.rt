@@ -15,3 +15,5 @@ mod resuming;
 mod searching;
 #[cfg(test)]
 mod starting;
+#[cfg(test)]
+mod witnesses;

@@ -1,0 +1,8 @@
+use Rattle.bre_match.proofs.witnesses.WatchSteps.{said_more}
+use Rattle.std.proofs.Common.{sym, ◌∙◌}
+use Rattle.bre_match.proofs.witness.watches.Watches.are_as_said.Goals as goal
+
+pub loop-at-preserved : goal.loop-at-preserved
+loop-at-preserved c =
+    said_more c.args.answers.now c.args.self.now c.loop-at.at c.index-answers-at.result _ _ c.loop-at-test.true c.index-answers-at.is c.at.ensures.value
+    (sym c.is_as_said.ensures.value ∙ c.if-not-is_as_said.false) c.loop-at.invariant
