@@ -31,10 +31,3 @@ pub mod ErasedPlaces
 pub mod ErasedEffects
 pub mod ErasedRuns
 pub mod MarkedStarts
-pub mod OneMatch
-pub mod PlacedEffects
-pub mod FoundPlaces
-pub mod SearchedGlobals
-mod SearchedGlobalRows
-pub mod SearchedTests
-pub mod SearchedPairs

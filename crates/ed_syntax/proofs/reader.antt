@@ -34,10 +34,5 @@ pub mod Fronts
 pub mod OffsetSteps
 pub mod QuotedSteps
 pub mod FrontLemmas
-pub mod PassedLemmas
-pub mod StepEnds
-pub mod SpanLemmas
 pub mod EndPlaces
-pub mod TextStarts
-pub mod ListSpanLemmas
 pub mod ListStartLemmas

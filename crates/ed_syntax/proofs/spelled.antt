@@ -1,5 +1,4 @@
 -- Lemmas and worked rows on which bytes spell which script.
 mod ScriptRows
 mod SpellingRows
-mod PlaceRows
 pub mod ReadableLemmas

@@ -7,14 +7,10 @@ pub mod PublicTypes
 pub mod PublicScript
 -- when two scripts are the same but for some of their commands
 pub mod Changed
--- where commands stand in the bytes of a script, those of a list in its command's, a text in its command's, and their parts in a line
-pub mod Places
-pub mod ListPlaces
-pub mod TextPlaces
+-- where the parts of a command stand in its line
 pub mod Ends
 -- the reader's own words
 pub mod reading
 -- what serves clauses inside the crate
 pub mod PartNumbers
-pub mod PassedLines
 pub mod ListStarts

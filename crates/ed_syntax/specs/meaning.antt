@@ -17,5 +17,3 @@ pub mod CommandLaws
 pub mod Erasure
 pub mod ErasureLaws
 pub mod Laws
-pub mod SearchedGlobals
-pub mod SearchedPairs

@@ -1,4 +1,4 @@
--- The reader's own words, in the order of reading: to believe only for the one address in front of a line (`address`).
+-- The reader's own words, in the order of reading: tied to the spellings by the law `scripts_are_read_as_spelled`
 pub mod Tokens
 pub mod ReadParameters
 pub mod ReadVerbs

@@ -90,7 +90,7 @@ fn alone(first: Option<Address>) -> Addresses
 }
 
 /// An address in front, or none.
-pub fn address(alloc: Global, bytes: &[u8]) -> Parsed<'_, Option<Address>>
+pub(crate) fn address(alloc: Global, bytes: &[u8]) -> Parsed<'_, Option<Address>>
     ensures value { IfOk result (λ read. MatchOption read (address bytes.now ≡ None)
         (λ (a, rest). address bytes.now ≡ Some (optional_address a, rest.now))) }
 {

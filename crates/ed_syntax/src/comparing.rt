@@ -7,7 +7,7 @@ ghost use Rattle.ed_syntax.specs.PublicTypes.{base_value, address_value, optiona
 use crate::{Address, Addresses, Base, Command, Form, Part, Pattern, Replacement, Script, Verb};
 use ed_base::{Bytes, Text};
 
-pub(crate) fn same_pattern(one: &Option<Pattern>, other: &Option<Pattern>) -> bool
+fn same_pattern(one: &Option<Pattern>, other: &Option<Pattern>) -> bool
     ensures exact { IsTrue result ↔ (one.now ≡ other.now) }
 {
     match (one, other) {
@@ -70,7 +70,7 @@ fn same_path(one: &Option<Bytes>, other: &Option<Bytes>) -> bool
     }
 }
 
-pub(crate) fn same_suffix(one: Option<Form>, other: Option<Form>) -> bool
+fn same_suffix(one: Option<Form>, other: Option<Form>) -> bool
     ensures exact { IsTrue result ↔ (suffix_value one ≡ suffix_value other) }
 {
     one == other
@@ -111,7 +111,7 @@ fn same_second(one: &Option<Address>, other: &Option<Address>) -> bool
     }
 }
 
-pub(crate) fn same_addresses(one: &Addresses, other: &Addresses) -> bool
+fn same_addresses(one: &Addresses, other: &Addresses) -> bool
     ensures exact { IsTrue result ↔ (addresses_value one.now ≡ addresses_value other.now) }
 {
     match (one, other) {
@@ -128,7 +128,7 @@ pub(crate) fn same_addresses(one: &Addresses, other: &Addresses) -> bool
 }
 
 /// Whether two commands have one letter and the same parameters, apart from the lists of global commands.
-pub(crate) fn same_verb(one: &Verb, other: &Verb) -> bool
+fn same_verb(one: &Verb, other: &Verb) -> bool
     ensures exact { IsTrue result ↔ (verb_value one.now ≡ verb_value other.now) }
 {
     match (one, other) {

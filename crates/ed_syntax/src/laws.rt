@@ -4,8 +4,6 @@ ghost use Rattle.ed_syntax.specs.meaning.CommandLaws.{AddressesKeepTheRest, Targ
 ghost use Rattle.ed_syntax.specs.meaning.ErasureLaws.{CommandsLeaveLetters, RunsIgnoreLetters, StartsMayBeMarked, MarkedLinesAreWell, MarksStand};
 ghost use Rattle.ed_syntax.specs.meaning.Laws.{UnaskedAnswersDoNothing, NothingIsAskedTwice, OnlyUnservedFilesFail, FilesAreWrittenByTheirPath, NeverEndsBy, FilesHaveACause};
 ghost use Rattle.ed_syntax.specs.meaning.Progress.{CutsToAFront, CutsAfter};
-ghost use Rattle.ed_syntax.specs.meaning.SearchedGlobals.{GlobalsDoTheSame, IdleGlobalsDoTheSame};
-ghost use Rattle.ed_syntax.specs.meaning.SearchedPairs.{BothAreOneGlobal};
 ghost use Rattle.ed_syntax.specs.spelling.Readable.{SpelledIsReadable};
 
 /// Addresses and a target change the current line and the remembered pattern alone, and the lines that a command is applied to are in
@@ -94,13 +92,4 @@ pub fn unnamed_letters_change_nothing()
     ensures start { StartsMayBeMarked }
     ensures lines { MarkedLinesAreWell }
     ensures marks { MarksStand }
-{}
-
-/// A command that searches for its line, and a global command for all lines that match whose list is that command: where one line
-/// matches, they do the same. One that only writes leaves nothing to undo as a global command, and does the same beside. A search alone
-/// and the command after it do the same as a global command with `p` and that command, which undo takes back at once.
-pub fn searches_are_globals_of_one_line()
-    ensures changing { GlobalsDoTheSame }
-    ensures writing { IdleGlobalsDoTheSame }
-    ensures both { BothAreOneGlobal }
 {}

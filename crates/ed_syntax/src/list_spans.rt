@@ -1,12 +1,8 @@
 //! Where the commands of a global command's list stand in its bytes.
-ghost use Rattle.std.specs.Prelude.{◌≡◌, ◌≤◌, ℕ, List, [], length, drop, map, MatchOption, Some, None, IfOk};
-ghost use Rattle.ed_base.specs.Lines.{IsLine, CutsFirst, lines_of};
-ghost use Rattle.ed_syntax.specs.Commands as ed;
-ghost use Rattle.ed_syntax.specs.spelling.Spellings.{Spells};
-ghost use Rattle.ed_syntax.specs.Places.{ended};
-ghost use Rattle.ed_syntax.specs.ListPlaces.{unjoined, ListBegins, FollowInList, AreListSpans};
+ghost use Rattle.std.specs.Prelude.{◌≡◌, ◌≤◌, length, MatchOption, Some, None, IfOk};
+ghost use Rattle.ed_base.specs.Lines.{lines_of};
 ghost use Rattle.ed_syntax.specs.ListStarts.{after_pattern, list_start};
-ghost use Rattle.ed_syntax.specs.reading.ReadGlobals.{joined, list_of, all_commands};
+ghost use Rattle.ed_syntax.specs.reading.ReadGlobals.{joined};
 
 use crate::Span;
 use crate::addresses::addresses;
@@ -21,11 +17,9 @@ use std::alloc::{AllocError, Global};
 
 /// Where each command of a global command's list stands, in the bytes that `places` tells of the global command: places count from its
 /// first byte, lines from its first line, which is 1. The first one begins after the delimiter that closes the pattern; a span ends with
-/// the newline after its last line, and the last one with the bytes. There are none where the bytes are another command.
-pub fn list_places(alloc: Global, command: &[u8]) -> Result<Vec<Span>, AllocError>
-    ensures value { IfOk result (λ spans. (after : List ℕ) (x : ed.Step) → Spells (ended command.now) (ended after) x →
-        AreListSpans command.now spans.items x.list) }
-{
+/// the newline after its last line, and the last one with the bytes. There are none where the bytes are another command. No clause says so, as for
+/// `places`.
+pub fn list_places(alloc: Global, command: &[u8]) -> Result<Vec<Span>, AllocError> {
     let Some((line, later)) = next_line(command) else {
         return Ok(Vec::new(alloc));
     };
@@ -72,9 +66,6 @@ fn places_of_list(
     later: &[u8],
 ) -> Result<Vec<Span>, AllocError>
     requires within { begin ≤ length command.now }
-    ensures value { IfOk result (λ spans. (list : List ℕ) (cs : List ed.Command) → ListBegins command.now begin →
-        IsLine own.now → CutsFirst (drop begin command.now) own.now later.now → joined own.now (lines_of later.now) ≡ (list, []) → list_of list ≡ Some cs →
-        AreListSpans command.now spans.items cs) }
 {
     let list = list_lines(alloc, own, later)?;
     if is_newline(after_blanks(list.as_slice())) {
@@ -106,8 +97,6 @@ fn spans_in_list(
     list: &[u8],
 ) -> Result<Vec<Span>, AllocError>
     requires within { begin ≤ length command.now }
-    ensures value { IfOk result (λ spans. (cs : List ed.Command) → lines_of list.now ≡ map unjoined (lines_of (drop begin command.now)) →
-        all_commands list.now ≡ Some cs → FollowInList command.now begin begin spans.items cs) }
 {
     let mut spans = Vec::new(alloc);
     let mut lines = ScriptLines::new(list);

@@ -16,7 +16,7 @@ pub type Parsed<'a, T> = Result<Option<(T, &'a [u8])>, AllocError>;
 
 /// The pattern after a delimiter, up to the next one, with which the rest begins, or to the line's end. Nothing is the remembered
 /// pattern, `None`. Only a lack of memory is an error.
-pub fn pattern_at(alloc: Global, delimiter: u8, bytes: &[u8]) -> Parsed<'_, Option<Pattern>>
+pub(crate) fn pattern_at(alloc: Global, delimiter: u8, bytes: &[u8]) -> Parsed<'_, Option<Pattern>>
     ensures value { IfOk result (λ read. MatchOption read (pattern_at delimiter bytes.now ≡ None)
         (λ (p, rest). pattern_at delimiter bytes.now ≡ Some (p, rest.now))) }
     ensures spelled { IfOk result (λ read. delimiter ≢ backslash → MatchOption read (NoPattern delimiter bytes.now)

@@ -2,7 +2,6 @@
 ghost use Rattle.std.specs.Prelude.{◌≡◌, ◌+◌, ◌≤◌, ℕ, [], ◌∷◌, length, IfOk, IfSome, MatchOption};
 ghost use Rattle.ed_base.specs.Lines.{IsLine, lines_of};
 ghost use Rattle.ed_syntax.specs.reading.ReadCommands.{text};
-ghost use Rattle.ed_syntax.specs.TextPlaces.{CutsText};
 
 use ed_base::{Bytes, Text, next_line};
 use std::alloc::{AllocError, Global};
@@ -75,7 +74,7 @@ impl<'a> ScriptLines<'a> {
 
 /// The bytes of the text that begins here, those after the line `.` that ends it, and how many lines were passed, that one too.
 pub fn cut_text(bytes: &[u8]) -> (&[u8], &[u8], usize)
-    ensures cut { CutsText bytes.now result.0.now result.1.now }
+    ensures shorter { length result.0.now ≤ length bytes.now }
     ensures value { text (lines_of bytes.now) ≡ (lines_of result.0.now, lines_of result.1.now) }
     ensures number { result.2 + length (lines_of result.1.now) ≡ length (lines_of bytes.now) }
     ensures size { result.2 + length result.1.now ≤ length bytes.now }

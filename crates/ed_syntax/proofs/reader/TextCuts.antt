@@ -6,8 +6,7 @@ use Rattle.std.proofs.lemmas.List.{length-append, take_at}
 use Rattle.ed_base.specs.Lines.{newline, IsLine, CutsFirst, lines_of, bytes_of}
 use Rattle.ed_base.proofs.LineLemmas.{AreLines-lines_of, lines_of-whole, lines_of-written, bytes_of-append}
 use Rattle.ed_syntax.specs.reading.ReadCommands.{is_dot, text}
-use Rattle.ed_syntax.proofs.reader.TextLemmas.{is_dot-sound, text-dot, text-line}
-use Rattle.ed_syntax.specs.TextPlaces.{CutsText}
+use Rattle.ed_syntax.proofs.reader.TextLemmas.{text-line}
 
 -- The front is the text so far, of whole lines while any bytes are left.
 pub record Cut (bytes front left : List ℕ) (passed : ℕ) : Type 0 where
@@ -33,11 +32,6 @@ front-is bytes front left parted =
 pub some-left : (left : List ℕ) → 0 < length (lines_of left) → 0 < length left
 some-left [] some = absurd (omega (arith, some))
 some-left (byte ∷ left) some = omega arith
-
-pub cut-start : (bytes : List ℕ) → Cut bytes (take (length bytes - length bytes) bytes) bytes 0
-cut-start bytes =
-    let start : Cut bytes [] bytes 0 = record { parted = refl; entered = refl; whole = inl refl; number = omega arith; size = omega arith } in
-    subst (λ front. Cut bytes front bytes 0) (sym (front-is bytes [] bytes refl)) start
 
 -- one more piece of the text, which is a line
 cut-more : (bytes front left piece rest line : List ℕ) (passed : ℕ) → Cut bytes front left passed → left ≡ piece ++ rest → lines_of left ≡ line ∷ lines_of rest → is_dot line ≡ false → 0 < length piece →
@@ -77,27 +71,3 @@ cut-next bytes front left line rest passed cut is_line cuts lines other =
     after line ∙ ap (λ ls. L ++ ls) (ap lines_of (sym e.0) ∙ lines ∙ ap (λ r. line ∷ lines_of r) e.1) in
     cut-more bytes front left line rest line passed cut (e.0 ∙ sym (append-nil line) ∙ ap (λ r. line ++ r) (sym e.1)) lines other (omega (arith, some, ap length e.0)) more (inr e.1))
     cuts
-
--- the line `.` ends the text
-pub cut-dot : (bytes front left line rest : List ℕ) (passed : ℕ) → Cut bytes front left passed → lines_of left ≡ line ∷ lines_of rest → is_dot line ≡ true → text (lines_of bytes) ≡ (lines_of front, lines_of rest)
-cut-dot bytes front left line rest passed cut lines is =
-    cut.entered
-    ∙ ap (λ (r : List (List ℕ) × List (List ℕ)). (lines_of front ++ r.0, r.1)) (ap text lines ∙ text-dot line (lines_of rest) is)
-    ∙ ap (λ (ls : List (List ℕ)). (ls, lines_of rest)) (append-nil (lines_of front))
-
--- no bytes are left
-pub cut-end : (bytes front left : List ℕ) (passed : ℕ) → Cut bytes front left passed → left ≡ [] → text (lines_of bytes) ≡ (lines_of bytes, [])
-cut-end bytes front left passed cut none =
-    let all : front ≡ bytes = sym (append-nil front) ∙ ap (λ l. front ++ l) (sym none) ∙ sym cut.parted in
-    cut.entered
-    ∙ ap (λ l. (lines_of front ++ (text (lines_of l)).0, (text (lines_of l)).1)) none
-    ∙ ap (λ (ls : List (List ℕ)). (ls, [])) (append-nil (lines_of front) ∙ ap lines_of all)
-
--- the bytes of the text are those before the line `.`
-pub cuts-dot : (bytes front left line rest : List ℕ) (passed : ℕ) → Cut bytes front left passed → lines_of left ≡ line ∷ lines_of rest → is_dot line ≡ true → CutsText bytes front rest
-cuts-dot bytes front left line rest passed cut lines is =
-    record { left = left; parted = cut.parted; after = inl (lines ∙ ap (λ l. l ∷ lines_of rest) (is_dot-sound line is)) }
-
--- or all of them
-pub cuts-end : (bytes : List ℕ) → CutsText bytes bytes []
-cuts-end bytes = record { left = []; parted = sym (append-nil bytes); after = inr (refl, refl) }
