@@ -52,13 +52,6 @@ wrong-place text what left h =
     let place : drop (length text - left) text ≡ h.here = ap (λ n. drop (length text - n) text) (sym h.left_is) ∙ end_at h.end in
     (short, subst (λ here. IsWrongHere here what) (sym place) h.wrong)
 
--- for want of memory nothing is said
-pub memory_stops : (text : List ℕ) (stopped : Stop) → stopped ≡ stop.Memory → StopsIn text stopped
-memory_stops text stopped same = subst (λ s. StopsIn text s) (sym same) tt
-
-pub memory_unless : (P : Type 0) (stopped : Stop) → stopped ≡ stop.Memory → Unless P stopped
-memory_unless P stopped same = subst (λ s. Unless P s) (sym same) tt
-
 pub unless_map : {P Q : Type 0} (stop : Stop) → (P → Q) → Unless P stop → Unless Q stop
 unless_map (stop.Wrong what left) f p = f p
 unless_map stop.Memory f p = tt

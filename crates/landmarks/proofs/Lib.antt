@@ -12,9 +12,4 @@ mod Told
 mod Started
 mod Marked
 mod Guarded
-mod BracketEnds
-mod Quotings
 mod SameChains
-mod WrittenKeys
-mod WrittenCounts
-mod WrittenChains

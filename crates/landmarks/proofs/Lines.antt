@@ -1,14 +1,8 @@
 -- Lines of a file, one after another, and what passes a test among them.
-use Rattle.std.proofs.Common.{◌≡◌, ◌<◌, ◌≤◌, ◌+◌, ◌-◌, ℕ, Bool, true, false, List, [], ◌∷◌, length, drop, get_or, Result, Ok, Err, ◌∙◌, sym, ap, inl, inr, ◌⊎◌, arith}
+use Rattle.std.proofs.Common.{◌≡◌, ◌<◌, ◌≤◌, ◌+◌, ◌-◌, ℕ, Bool, true, false, List, [], ◌∷◌, length, drop, get_or, ◌∙◌, sym, ap, inl, inr, ◌⊎◌, arith}
 use Rattle.std.proofs.lemmas.List.{length-drop, drop-drop, get_or-drop, drop_all}
-use Rattle.std.specs.Option.{is_some}
-use Rattle.bre_parse.specs.Tree.{Tree}
-use Rattle.bre_parse.specs.Match.{match_from}
-use Rattle.bre_parse.specs.Grammar.{pattern}
-use Rattle.bre_parse.specs.declared.fault.BreFault.{BreFault}
-use Rattle.ed_syntax.specs.meaning.Values.{matches}
-use Rattle.landmarks.specs.Places.{line_of, NonePasses, NoneMatches}
-use Rattle.landmarks.specs.Looking.{finds, IsFirstPassing}
+use Rattle.landmarks.specs.Places.{line_of, NonePasses}
+use Rattle.landmarks.specs.Looking.{IsFirstPassing}
 
 -- LINES ONE AFTER ANOTHER
 
@@ -50,26 +44,3 @@ passes-here test lines a b n line none from below is passes = record {
 }
 
 -- TEXTS AND THEIR TREES
-
-pub matches-tree : (text line : List ℕ) (tree : Tree) → pattern text ≡ Ok tree → matches text line ≡ finds tree line
-matches-tree text line tree is =
-    ap (λ (r : Result Tree BreFault). elim r as (λ _. Bool) [ Ok tree ↦ is_some (match_from tree line 0) | Err f ↦ false ]) is
-
-pub matches-none : (text line : List ℕ) (fault : BreFault) → pattern text ≡ Err fault → matches text line ≡ false
-matches-none text line fault is =
-    ap (λ (r : Result Tree BreFault). elim r as (λ _. Bool) [ Ok tree ↦ is_some (match_from tree line 0) | Err f ↦ false ]) is
-
-pub none-of_tree : (text : List ℕ) (tree : Tree) (lines : List (List ℕ)) (a b : ℕ) → pattern text ≡ Ok tree → NonePasses (finds tree) lines a b → NoneMatches lines a b text
-none-of_tree text tree lines a b is none number above below = matches-tree text (line_of lines number) tree is ∙ none number above below
-
-pub first-of_tree : (text : List ℕ) (tree : Tree) (lines : List (List ℕ)) (a b n : ℕ) → pattern text ≡ Ok tree → IsFirstPassing (finds tree) lines a b n →
-    IsFirstPassing (matches text) lines a b n
-first-of_tree text tree lines a b n is h = record {
-  after = h.after;
-  through = h.through;
-  passes = matches-tree text (line_of lines n) tree is ∙ h.passes;
-  earlier = none-of_tree text tree lines a (n - 1) is h.earlier;
-}
-
-pub none-of_none : (text : List ℕ) (fault : BreFault) (lines : List (List ℕ)) (a b : ℕ) → pattern text ≡ Err fault → NoneMatches lines a b text
-none-of_none text fault lines a b is number above below = matches-none text (line_of lines number) fault is

@@ -18,9 +18,6 @@ pub record NoneLeft (text left : List ℕ) (set : List (List ℕ)) : Type 0 wher
   pub back : (rest : List ℕ) (none : List (List ℕ)) → SpellsNone [] text rest none → SpellsNone set left rest none
   pub end : IsEnd text left
 
-pub none_start : (text : List ℕ) → NoneLeft text text []
-none_start text = record { forward = λ rest none is. is; back = λ rest none is. is; end = end_all text }
-
 pub none_step : {text left key more pattern : List ℕ} {set after : List (List ℕ)} → SpellsWord (codes "no") left key → IsEnd left key → SpellsKey key more pattern →
     IsEnd key more → after ≡ with_text pattern set → NoneLeft text left set → NoneLeft text more after
 none_step {text} {left} {key} {more} {pattern} {set} {after} word to_key is to_more put h =
@@ -45,9 +42,6 @@ pub record TestsLeft (text left : List ℕ) (also lacks : List (List ℕ)) : Typ
   pub forward : (rest : List ℕ) (a l : List (List ℕ)) → SpellsTests also lacks left rest a l → SpellsTests [] [] text rest a l
   pub back : (rest : List ℕ) (a l : List (List ℕ)) → SpellsTests [] [] text rest a l → SpellsTests also lacks left rest a l
   pub end : IsEnd text left
-
-pub tests_start : (text : List ℕ) → TestsLeft text text [] []
-tests_start text = record { forward = λ rest a l is. is; back = λ rest a l is. is; end = end_all text }
 
 pub end_ampersand : {left key : List ℕ} → after_blanks left ≡ ampersand ∷ key → IsEnd left key
 end_ampersand {left} {key} sign = end_later (end_is (end_blanks left) sign) (end_after ampersand (end_all key))
@@ -110,9 +104,6 @@ pub record LandmarksLeft (text left : List ℕ) (chain : List Landmark) : Type 0
   pub forward : (later : List Landmark) → SpellsLandmarks left later → SpellsLandmarks text (chain ++ later)
   pub back : (all : List Landmark) → SpellsLandmarks text all → (later : List Landmark) × (all ≡ chain ++ later) × SpellsLandmarks left later
   pub end : IsEnd text left
-
-pub landmarks_start : (text : List ℕ) → LandmarksLeft text text []
-landmarks_start text = record { forward = λ later is. is; back = λ all is. (all, refl, is); end = end_all text }
 
 pub landmarks_step : {text left rest more : List ℕ} {landmark : Landmark} {chain after : List Landmark} → SpellsLandmark left rest landmark → IsEnd left rest →
     after_blanks rest ≡ semicolon_byte ∷ more → after ≡ chain ++ landmark ∷ [] → LandmarksLeft text left chain → LandmarksLeft text more after

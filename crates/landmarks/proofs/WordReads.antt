@@ -3,7 +3,7 @@ use Rattle.std.proofs.Common.{◌≡◌, ◌≢◌, ℕ, ◌<◌, ◌≤◌, tru
 use Rattle.std.specs.Prelude.{IsTrue}
 use Rattle.std.specs.Cmp.Lexicographic.{pointwise, bytes_decides}
 use Rattle.std.proofs.lemmas.Bool.{ne_eqb}
-use Rattle.std.proofs.lemmas.List.{take-append-drop, take_at, append_cancel_left}
+use Rattle.std.proofs.lemmas.List.{take-append-drop, take_at}
 use Rattle.std.proofs.lemmas.Option.{same_Some as Some-same}
 use Rattle.bre_parse.specs.Tree.{Tree}
 use Rattle.bre_parse.specs.Grammar.{pattern}
@@ -72,13 +72,6 @@ pub no_word_front : (text word here : List ℕ) → here ≡ after_blanks text �
 no_word_front text word here same other = λ rest is.
     let front : take (length word) here ≡ word = ap (take (length word)) (same ∙ is.stands) ∙ take_at word rest (length word) refl in
     let e : false ≡ true = sym other ∙ (bytes_decides (take (length word) here) word).1 front in
-    cc
-
-pub no_word_letter : (text word rest here : List ℕ) → here ≡ after_blanks text → pointwise nat_eq (take (length word) here) word ≡ true → rest ≡ drop (length word) here →
-    begins is_letter rest ≡ true → NoWord word text
-no_word_letter text word rest here blanks same after letter = λ other is.
-    let whole : word ++ rest ≡ word ++ other = sym (word_front here word rest same after) ∙ blanks ∙ is.stands in
-    let e : false ≡ true = sym is.over ∙ ap (begins is_letter) (sym (append_cancel_left word rest other whole)) ∙ letter in
     cc
 
 -- patterns: with which delimiter the rest begins
@@ -191,10 +184,6 @@ wrong_in_here text d more opened delimits lacking (wrong.Never why) left is h = 
 -- a text that begins with no delimiter
 pub wrong_key : (text here : List ℕ) → here ≡ after_blanks text → begins is_key_delimiter here ≡ false → IsWrongAt text wrong.Key (length here)
 wrong_key text here is other = wrong_here text wrong.Key (length here) (ap length is) (subst (λ h. begins is_key_delimiter h ≡ false) is other)
-
-pub no_key : (text here : List ℕ) → here ≡ after_blanks text → begins is_key_delimiter here ≡ false → NoKey text
-no_key text here is other = λ rest bytes key.
-    let e : false ≡ true = sym other ∙ ap (begins is_key_delimiter) (is ∙ key.opened) ∙ key.delimits in cc
 
 -- signs
 pub sign_read : (text here : List ℕ) (sign : ℕ) → here ≡ after_blanks text → 1 ≤ length here → get_or here 0 0 ≡ sign → after_blanks text ≡ sign ∷ after_first here

