@@ -19,7 +19,7 @@ use crate::matching::{Certainty, joining_given};
 use crate::order::facts_of_both;
 use crate::state::{Old, State};
 use crate::watch::Watch;
-use ed_base::{Text, Texts};
+use ed_base::{Letter, Text, Texts};
 use ed_syntax::{Addresses, Verb};
 use std::alloc::{AllocError, Global};
 use zones::Name;
@@ -44,6 +44,13 @@ impl Old {
         let mut facts = self.facts.try_copy()?;
         facts.set_to(alloc, &self.zone, x, y, 0)?;
         Ok(facts)
+    }
+
+    /// `k`
+    fn facts_marked(&self, alloc: Global, letter: Letter) -> Result<LineFacts, AllocError>
+        ensures value { IfOk result (λ facts. facts ≡ facts_as (name.mark letter) name.first_address self.now) }
+    {
+        self.facts_as(alloc, Name::of(letter), Name::FIRST_ADDRESS)
     }
 
     /// The line that `i` without a text makes current is the one that it names, if it is known that there is one.
@@ -284,7 +291,7 @@ impl Old {
             Verb::Change(text) => self.facts_changed(alloc, watch, text, &after.marks),
             Verb::Delete => self.facts_untested(alloc, NewLines::Gone, &after.marks),
             Verb::Join => self.facts_joined(alloc, given, &after.marks),
-            Verb::Mark(letter) => self.facts_as(alloc, Name::of(*letter), Name::FIRST_ADDRESS),
+            Verb::Mark(letter) => self.facts_marked(alloc, *letter),
             Verb::Write(_) => self.facts_as(alloc, Name::CURRENT_LINE, Name::SECOND_ADDRESS),
             Verb::Null => self.facts_as(alloc, Name::CURRENT_LINE, Name::FIRST_ADDRESS),
             Verb::Substitute { .. } => self.facts_substituted(alloc, listed, after),

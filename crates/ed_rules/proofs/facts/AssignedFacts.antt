@@ -1,23 +1,23 @@
 -- What is said once a name has become another one's line, or has moved, is true.
-use Rattle.std.proofs.Common.{◌≡◌, ◌<◌, inl, inr, ℕ, zero, suc, ℤ, pos, negsuc, ◌+ℤ◌, ◌≤ℤ◌, ◌<ℤ◌, ◌==◌, true, false, cond, not, ◌&&◌, eqb, List, [], ◌++◌, filter, flat_map, length, All, Some, refl, sym, ap, ◌∙◌, arith}
+use Rattle.std.proofs.Common.{◌≡◌, ◌<◌, inl, inr, ℕ, zero, suc, ℤ, pos, negsuc, ◌+ℤ◌, ◌≤ℤ◌, ◌<ℤ◌, ◌==◌, true, false, cond, not, ◌&&◌, eqb, List, [], ◌++◌, filter, find, flat_map, length, map, All, None, Some, refl, sym, ap, ◌∙◌, arith}
 use Rattle.std.proofs.lemmas.Int.{ints}
 use Rattle.std.proofs.lemmas.Bool.{eqb-true, cases_eq, and_parts}
-use Rattle.std.proofs.lemmas.List.Elements.{All-nil, All-map, All-append}
+use Rattle.std.proofs.lemmas.List.Elements.{All-nil, All-map, All-append, All-weaker}
 use Rattle.zones.specs.Zone.{Bounds, Numbers, Holds, updated}
 use Rattle.zones.specs.Steps.{after_shift}
 use Rattle.zones.proofs.Soundness.{Holds-after_set, Holds-after_shift}
 use Rattle.zones.proofs.Known.{updated-same, updated-other}
 use Rattle.ed_base.specs.Buffer.{Line}
 use Rattle.ed_syntax.specs.meaning.Values.{matches_line}
-use Rattle.ed_rules.specs.facts.Facts.{ReadsEnds, LineFact, Stretch, Facts, FactsHold, LineFactHolds, StretchHolds, value_of, point, told}
+use Rattle.ed_rules.specs.facts.Facts.{ReadsEnds, LineFact, Stretch, Facts, FactsHold, LineFactHolds, StretchHolds, value_of, point, same, told}
 use Rattle.ed_rules.specs.facts.FactOrder.{is_line}
 use Rattle.ed_rules.specs.facts.FoundLines.{Known, known_as, without}
 use Rattle.ed_rules.specs.facts.FoundHolds.{KnownHolds}
 use Rattle.ed_rules.specs.facts.EditedFacts.{told_fact}
-use Rattle.ed_rules.specs.facts.AssignedFacts.{told_as, from_as, to_as, assigned, shortened, moved}
-use Rattle.ed_rules.proofs.facts.FactsTold.{told-true}
+use Rattle.ed_rules.specs.facts.AssignedFacts.{told_as, from_as, to_as, is_heir, handed_on, assigned, shortened, moved}
+use Rattle.ed_rules.proofs.facts.FactsTold.{same-true, told-true}
 use Rattle.ed_rules.proofs.facts.FactsOrdered.{is_line-true}
-use Rattle.ed_rules.proofs.facts.FoundLines.{filter-both, FactsHold-without, clear-within, not-name, value-other, value-at}
+use Rattle.ed_rules.proofs.facts.FoundLines.{filter-both, find-gives, FactsHold-without, clear-within, not-name, value-other, value-at}
 use Rattle.ed_rules.proofs.facts.EditedFacts.{all-flat, told-fact-each}
 
 told_as-holds : (x y : ℕ) (patterns : List (List ℕ)) (zone : Bounds) (facts : Facts) (number : Numbers) (lines : List Line) → x < 32 → y < 32 → Holds zone number → ReadsEnds number lines → FactsHold facts number lines →
@@ -42,41 +42,70 @@ value-new x y number hx hy =
     let b : value_of number (point y) ≡ number y = value-at number y hy in
     a ∙ updated-same number x (number y) ∙ sym b
 
-from_as-holds : (x y : ℕ) (number : Numbers) (lines : List Line) (clear : List Stretch) → x < 32 → y < 32 → (2 ≡ x → ⊥) → All (StretchHolds number lines) clear → All (StretchHolds (updated number x (number y)) lines) (from_as x y clear)
-from_as-holds x y number lines clear hx hy ne all =
-    let w : Numbers = updated number x (number y) in
+-- Stretches from y, said from x: x has the place that y had, and the other names theirs.
+from_as-holds : (x y : ℕ) (w number : Numbers) (lines : List Line) (clear : List Stretch) → x < 32 → value_of w (point x) ≡ value_of number (point y) →
+    ((p : ℕ) → p < 33 → (p ≡ x → ⊥) → value_of w (point p) ≡ value_of number (point p)) → All (StretchHolds number lines) clear → All (StretchHolds w lines) (from_as x y clear)
+from_as-holds x y w number lines clear hx moved_to others all =
     All-map (StretchHolds w lines) (λ (s : Stretch). record s { after = x }) (filter (λ (s : Stretch). eqb s.after y && not (eqb s.before x)) clear)
     (filter-both (λ (s : Stretch). eqb s.after y && not (eqb s.before x)) (StretchHolds number lines) (λ (s : Stretch). StretchHolds w lines (record s { after = x })) clear all
     (λ s q e.
     let b = and_parts (eqb s.after y) (not (eqb s.before x)) e in
-    let same : s.after ≡ y = eqb-true s.after y b.0 in
-    let low : value_of w (point x) ≡ value_of number (point s.after) = value-new x y number hx hy ∙ ap (λ (z : ℕ). value_of number (point z)) (sym same) in
-    let high = value-other x s.before (number y) number ne q.before_named (not-name s.before x b.1) in
+    let is : s.after ≡ y = eqb-true s.after y b.0 in
+    let low : value_of w (point x) ≡ value_of number (point s.after) = moved_to ∙ ap (λ (z : ℕ). value_of number (point z)) (sym is) in
+    let high = others s.before q.before_named (not-name s.before x b.1) in
     record { after_named = omega arith; before_named = q.before_named; holds = clear-within (length lines) (matches_line s.pattern lines) _ _ _ _ (omega (arith, ints)) (omega (arith, ints)) q.holds }))
 
-to_as-holds : (x y : ℕ) (number : Numbers) (lines : List Line) (clear : List Stretch) → x < 32 → y < 32 → (2 ≡ x → ⊥) → All (StretchHolds number lines) clear → All (StretchHolds (updated number x (number y)) lines) (to_as x y clear)
-to_as-holds x y number lines clear hx hy ne all =
-    let w : Numbers = updated number x (number y) in
+to_as-holds : (x y : ℕ) (w number : Numbers) (lines : List Line) (clear : List Stretch) → x < 32 → value_of w (point x) ≡ value_of number (point y) →
+    ((p : ℕ) → p < 33 → (p ≡ x → ⊥) → value_of w (point p) ≡ value_of number (point p)) → All (StretchHolds number lines) clear → All (StretchHolds w lines) (to_as x y clear)
+to_as-holds x y w number lines clear hx moved_to others all =
     All-map (StretchHolds w lines) (λ (s : Stretch). record s { before = x }) (filter (λ (s : Stretch). eqb s.before y && not (eqb s.after x)) clear)
     (filter-both (λ (s : Stretch). eqb s.before y && not (eqb s.after x)) (StretchHolds number lines) (λ (s : Stretch). StretchHolds w lines (record s { before = x })) clear all
     (λ s q e.
     let b = and_parts (eqb s.before y) (not (eqb s.after x)) e in
-    let same : s.before ≡ y = eqb-true s.before y b.0 in
-    let high : value_of w (point x) ≡ value_of number (point s.before) = value-new x y number hx hy ∙ ap (λ (z : ℕ). value_of number (point z)) (sym same) in
-    let low = value-other x s.after (number y) number ne q.after_named (not-name s.after x b.1) in
+    let is : s.before ≡ y = eqb-true s.before y b.0 in
+    let high : value_of w (point x) ≡ value_of number (point s.before) = moved_to ∙ ap (λ (z : ℕ). value_of number (point z)) (sym is) in
+    let low = others s.after q.after_named (not-name s.after x b.1) in
     record { after_named = q.after_named; before_named = omega arith; holds = clear-within (length lines) (matches_line s.pattern lines) _ _ _ _ (omega (arith, ints)) (omega (arith, ints)) q.holds }))
+
+-- what another name of the line is told is true of it
+handed_on-holds : (x : ℕ) (zone : Bounds) (facts : Facts) (number : Numbers) (lines : List Line) → x < 32 → Holds zone number → FactsHold facts number lines → FactsHold (handed_on x zone facts) number lines
+handed_on-holds x zone facts number lines hx holds h =
+    let names : List ℕ = map (λ (f : LineFact). f.name) facts.lines in
+    let named : All (λ (z : ℕ). z < 32) names = All-map (λ (z : ℕ). z < 32) (λ (f : LineFact). f.name) facts.lines
+    (All-weaker (LineFactHolds number lines) (λ (f : LineFact). f.name < 32) (λ f q. q.named) facts.lines h.of_lines) in
+    (elim (find (is_heir zone x) names) as (λ o. find (is_heir zone x) names ≡ o → FactsHold (elim o [
+      | Some z ↦ record facts { clear = from_as z x facts.clear ++ (to_as z x facts.clear ++ facts.clear) }
+      | None ↦ facts
+    ]) number lines) [
+      | None ↦ λ e. h
+      | Some z ↦ λ e.
+          let found = find-gives (is_heir zone x) (λ (y : ℕ). y < 32) names z named e in
+          let tests = and_parts (not (eqb z x)) (same zone z x) found.1 in
+          let is : number z ≡ number x = same-true zone number z x tests.1 found.0 hx holds in
+          let there : value_of number (point z) ≡ value_of number (point x) = value-at number z found.0 ∙ is ∙ sym (value-at number x hx) in
+          record {
+            of_lines = h.of_lines;
+            of_clear = All-append (StretchHolds number lines) (from_as z x facts.clear) (to_as z x facts.clear ++ facts.clear)
+                (from_as-holds z x number number lines facts.clear found.0 there (λ p hp ne. refl) h.of_clear)
+                (All-append (StretchHolds number lines) (to_as z x facts.clear) facts.clear (to_as-holds z x number number lines facts.clear found.0 there (λ p hp ne. refl) h.of_clear) h.of_clear);
+          }
+    ]) refl
 
 pub assigned-holds : (x y : ℕ) (patterns : List (List ℕ)) (zone : Bounds) (facts : Facts) (number : Numbers) (lines : List Line) → x < 32 → y < 32 → (2 ≡ x → ⊥) → Holds zone number → ReadsEnds number lines → FactsHold facts number lines →
     KnownHolds (assigned x y patterns zone facts) (updated number x (number y)) lines
-assigned-holds x y patterns zone facts number lines hx hy ne holds r h =
+assigned-holds x y patterns zone old number lines hx hy ne holds r was =
+    let facts : Facts = handed_on x zone old in
+    let h : FactsHold facts number lines = handed_on-holds x zone old number lines hx holds was in
     let w : Numbers = updated number x (number y) in
     let others : FactsHold (without x facts) w lines = FactsHold-without x (number y) facts number lines ne h in
+    let moved_to = value-new x y number hx hy in
+    let same_else : (p : ℕ) → p < 33 → (p ≡ x → ⊥) → value_of w (point p) ≡ value_of number (point p) = λ p hp other. value-other x p (number y) number ne hp other in
     record {
       zone = Holds-after_set zone x y (pos 0) number w hx hy holds (updated-other number x (number y)) (let e : w x ≡ number y = updated-same number x (number y) in omega (arith, ints));
       facts = record {
         of_lines = All-append (LineFactHolds w lines) (told_as zone facts x y patterns) (without x facts).lines (told_as-holds x y patterns zone facts number lines hx hy holds r h) others.of_lines;
-        of_clear = All-append (StretchHolds w lines) (from_as x y facts.clear) (to_as x y facts.clear ++ (without x facts).clear) (from_as-holds x y number lines facts.clear hx hy ne h.of_clear)
-            (All-append (StretchHolds w lines) (to_as x y facts.clear) (without x facts).clear (to_as-holds x y number lines facts.clear hx hy ne h.of_clear) others.of_clear);
+        of_clear = All-append (StretchHolds w lines) (from_as x y facts.clear) (to_as x y facts.clear ++ (without x facts).clear) (from_as-holds x y w number lines facts.clear hx moved_to same_else h.of_clear)
+            (All-append (StretchHolds w lines) (to_as x y facts.clear) (without x facts).clear (to_as-holds x y w number lines facts.clear hx moved_to same_else h.of_clear) others.of_clear);
       };
     }
 

@@ -15,7 +15,7 @@ use Rattle.ed_rules.specs.facts.Facts.{LineFact, Stretch, Facts, Point, same_tex
 use Rattle.ed_rules.specs.facts.CarriedFacts.{stretch_carried, last_carried, carried_facts}
 use Rattle.ed_rules.specs.facts.SubstitutedFacts.{is_spared, stretch_spared, substituted_facts}
 use Rattle.ed_rules.specs.facts.EditedFacts.{Fresh, Between, edit_of, none_match, all_but_last, is_no, is_free, is_free_before_last, is_single, is_outside, stretch_stays, clear_before, clear_after, stretches, told_fact, of_last, of_last_known, last_edited, edited, entered_line}
-use Rattle.ed_rules.specs.facts.NewLines.{last_fresh, last_known, tested, is_yes, none_but_last, last_of, tested_by, clear_of, matched_in, look_at, is_kept_by, is_left, left_of, last_left, edited_by, last_aside, carried_by, spared_by}
+use Rattle.ed_rules.specs.facts.NewLines.{last_fresh, last_known, tested, none_but_last, last_of, tested_by, clear_of, matched_in, look_at, is_kept_by, is_left, left_of, last_left, edited_by, last_aside, carried_by, spared_by}
 
 -- LISTS
 
@@ -270,24 +270,6 @@ tested_more before last answers = record {
   free_before_last = not before && none_but_last (with_last last answers);
   last = last_of (with_last last answers);
 }
-
-pub tested-next : (before : Bool) (last : Option Bool) (b : Bool) (answers : List Bool) →
-    tested_more before last (b ∷ answers) ≡ tested_more (before || is_yes last) (Some b) answers
-tested-next true None b answers = refl
-tested-next false None b answers = refl
-tested-next true (Some true) b answers = refl
-tested-next true (Some false) b answers = refl
-tested-next false (Some true) b answers = refl
-tested-next false (Some false) b answers = refl
-
-pub tested-ended : (before : Bool) (last : Option Bool) →
-    tested_more before last [] ≡ record { free = not before && not (is_yes last); free_before_last = not before; last = last }
-tested-ended true None = refl
-tested-ended false None = refl
-tested-ended true (Some true) = refl
-tested-ended true (Some false) = refl
-tested-ended false (Some true) = refl
-tested-ended false (Some false) = refl
 
 -- where no line matches
 pub none-lines : (l : List ℕ) (ls : List (List ℕ)) →

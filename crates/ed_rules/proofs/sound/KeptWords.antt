@@ -24,11 +24,6 @@ use Rattle.ed_rules.proofs.sound.TakenMatches.{IsFound, taken-found, found-longe
 drop-past : (s t : List ℕ) (n : ℕ) → drop (length s + n) (s ++ t) ≡ drop n t
 drop-past s t n = sym (drop-drop n (length s) (s ++ t)) ∙ ap (drop n) (drop_at s t (length s) refl)
 
-begins-fits : (text word : List ℕ) → begins_with text word ≡ true → length word ≤ length text
-begins-fits text [] h = omega arith
-begins-fits [] (byte ∷ word) h = absurd cc
-begins-fits (found ∷ text) (byte ∷ word) h = let le = begins-fits text word (and_parts _ _ h).1 in omega arith
-
 -- WHAT STAYS OF A TEXT
 
 module _ (parts : List Part) (text : List ℕ) (place : ℕ) (inside : place ≤ length text) where

@@ -40,10 +40,6 @@ Each-upwards count a b h k = elim (cases_lt (b + 1) a) [
   | inr l ↦ Each-count_from count a (b + 1 - a) h (omega arith)
 ]
 
-length-count_from : (first many : ℕ) → length (count_from first many) ≡ many
-length-count_from first zero = refl
-length-count_from first (suc many) = ap suc (length-count_from (first + 1) many)
-
 -- where one of them passes, the first that passes is found
 pub find-line : (p : ℕ → Bool) (count : ℕ) (ns : List ℕ) → list_any p ns ≡ true → Each count ns → (n : ℕ) × (find p ns ≡ Some n) × (1 ≤ n) × (n ≤ count)
 find-line p count [] any each = absurd cc

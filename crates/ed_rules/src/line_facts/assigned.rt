@@ -1,13 +1,13 @@
 //! What is known of lines where a name becomes another one's line, or moves by a number.
 
-ghost use Rattle.std.specs.Prelude.{◌≡◌, ◌≤ℤ◌, ◌++◌, ◌==◌, ◌&&◌, not, map, filter, flat_map, pos, negsuc, ℕ, List, IfOk, OnOk};
+ghost use Rattle.std.specs.Prelude.{◌≡◌, ◌≤ℤ◌, ◌++◌, ◌==◌, ◌&&◌, not, map, filter, find, flat_map, pos, negsuc, ℕ, List, IfOk, OnOk};
 ghost use Rattle.zones.specs.Zone.{Bounds};
 ghost use Rattle.ed_rules.specs.facts.Facts.{Stretch, told};
 ghost use Rattle.ed_rules.specs.facts.FoundLines.{known_as};
 ghost use Rattle.ed_rules.specs.facts.EditedFacts.{told_fact};
-ghost use Rattle.ed_rules.specs.facts.AssignedFacts.{told_as, from_as, to_as, assigned, moved, shortened};
+ghost use Rattle.ed_rules.specs.facts.AssignedFacts.{told_as, from_as, to_as, is_heir, handed_on, assigned, moved, shortened};
 
-use crate::line_facts::known::is_line;
+use crate::line_facts::known::{are_same, is_line};
 use crate::line_facts::{ClearStretch, KnownLine, LineFacts, edge_of};
 use ed_base::{Bytes, Texts};
 use std::alloc::{AllocError, Global};
@@ -95,7 +95,36 @@ impl LineFacts {
         Ok(clear)
     }
 
-    /// x becomes the line y: of these patterns it is told what y is told. After an `Err` some of it may be done.
+    /// Another name of the line x of which something is told.
+    fn heir(&self, zone: &Zone, x: Name) -> Option<Name>
+        ensures value { result ≡ find (is_heir zone.now x) (map (λ f. f.name) self.now.lines) }
+    {
+        for fact in &self.lines {
+            if fact.name.place() != x.place() && are_same(zone, fact.name, x) {
+                return Some(fact.name);
+            }
+        }
+        None
+    }
+
+    /// What is told of the stretches from x and up to it is told by another name of its line too, if one is known. After an `Err` some of it
+    /// may be done.
+    fn hand_on(&mut self, alloc: Global, zone: &Zone, x: Name) -> Result<(), AllocError>
+        ensures value { OnOk result (self.new ≡ handed_on x zone.now self.old) }
+    {
+        let Some(heir) = self.heir(zone, x) else {
+            return Ok(());
+        };
+        let mut clear = self.from_as(alloc, heir, x)?;
+        let mut to = self.to_as(alloc, heir, x)?;
+        to.append(&mut self.clear)?;
+        clear.append(&mut to)?;
+        self.clear = clear;
+        Ok(())
+    }
+
+    /// x becomes the line y: of these patterns it is told what y is told, and what was told by x of its old line another name of it tells. After
+    /// an `Err` some of it may be done.
     pub(crate) fn assign(
         &mut self,
         alloc: Global,
@@ -106,6 +135,7 @@ impl LineFacts {
     ) -> Result<(), AllocError>
         ensures value { OnOk result (self.new ≡ (assigned x y patterns.now zone.now self.old).facts) }
     {
+        self.hand_on(alloc, zone, x)?;
         let mut lines = self.told_as(alloc, zone, x, y, patterns)?;
         let mut clear = self.from_as(alloc, x, y)?;
         let mut to = self.to_as(alloc, x, y)?;
