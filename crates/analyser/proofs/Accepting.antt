@@ -41,12 +41,6 @@ holds-at b number later e rest = All-cons Holds (at number b) later e rest
 
 -- THE SHAPE AND THE END
 
-pub length-notes : (w : Sight) (xs : List Step) (s : State) (ns : List Note) → AreNotes w xs s ns → length ns ≡ length xs
-length-notes w [] s [] h = refl
-length-notes w [] s (n ∷ ns) h = absurd h
-length-notes w (x ∷ xs) s [] h = absurd h
-length-notes w (x ∷ xs) s (n ∷ ns) h = let q = length-notes w xs (left_after w n.looped x s) ns h.1 in omega arith
-
 fits-known : (w : Sight) (global : Bool) (x : Step) (s : State) (l : Option Looped) → IsKnownOfList w global x s l → fits_list global x.list l ≡ true
 fits-known w false x s None h = refl
 fits-known w false x s (Some l) h = absurd h

@@ -11,13 +11,13 @@ use Rattle.zones.specs.Name.{current_line, first_address, second_address, last_l
 use Rattle.zones.specs.Known.{known}
 use Rattle.bre_parse.specs.Always.{text_is_always}
 use Rattle.ed_syntax.specs.declared.command.Command as memory
-use Rattle.ed_syntax.specs.PublicTypes.{verb_value, addresses_value, step_value}
+use Rattle.ed_syntax.specs.PublicTypes.{addresses_value, step_value}
 use Rattle.ed_syntax.specs.Commands as ed
 use Rattle.ed_syntax.specs.Commands.{Base, Addresses, Without, One, Comma, Semicolon, Command, Step, Script}
 use Rattle.ed_syntax.specs.spelling.Readable.{enters_lines}
 use Rattle.ed_syntax.specs.meaning.Values.{◌>>◌, matches}
 use Rattle.ed_syntax.specs.meaning.Verbs as verbs
-use Rattle.ed_syntax.specs.meaning.Verbs.{Alteration, takes, given_or, is_global, ends_run}
+use Rattle.ed_syntax.specs.meaning.Verbs.{Alteration, takes, given_or, is_global}
 use Rattle.ed_rules.specs.declared.state.State.{State}
 use Rattle.ed_rules.specs.Texts.{is_member}
 use Rattle.ed_rules.specs.Matched.{gained, sought}
@@ -46,7 +46,7 @@ use Rattle.analyser.specs.declared.analysis.Start.{Start}
 use Rattle.analyser.specs.Following.{IsKnownOfList, AreNotes, do_count, version_by, version_of, sight_over, knowing, begun, stated_of}
 use Rattle.analyser.specs.Judged.{IsVouched}
 use Rattle.analyser.proofs.Telling.{sight-version}
-use Rattle.analyser.proofs.Going.{counted_from, counted-here, later, later-on}
+use Rattle.analyser.proofs.Going.{counted_from, counted-here, later}
 use Rattle.analyser.specs.Wanted.{seeks_at, seeks_first, enters_match, brings_none, seeks}
 
 -- a set is without a text
@@ -296,12 +296,3 @@ pub seeks-here : (text : List ℕ) (commands : List memory.Command) (i : ℕ) (d
 seeks-here text commands i d below is first =
     ap (seeks text) (counted-here commands i d below is)
     ∙ ap (λ (b : Bool). b || (brings_none text (step_value d) && seeks text (later commands i d))) first
-
-pub seeks-next : (text : List ℕ) (commands : List memory.Command) (i : ℕ) (d : memory.Command) → i < length commands → d ≡ get_or commands i d →
-    seeks_first text (addresses_value d.addresses) ≡ false → brings_none text (step_value d) ≡ true → ends_run (verb_value d.verb) ≡ false →
-    seeks text (counted_from commands i) ≡ seeks text (counted_from commands (i + 1))
-seeks-next text commands i d below is first brings ends =
-    ap (seeks text) (counted-here commands i d below is)
-    ∙ ap (λ (b : Bool). b || (brings_none text (step_value d) && seeks text (later commands i d))) first
-    ∙ ap (λ (b : Bool). b && seeks text (later commands i d)) brings
-    ∙ ap (seeks text) (later-on commands i d ends)

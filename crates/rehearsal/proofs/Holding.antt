@@ -9,7 +9,7 @@ use Rattle.ed_syntax.specs.declared.request.Answer.{Answer}
 use Rattle.ed_syntax.specs.declared.request.Answer.TheVariants as answer
 use Rattle.ed_syntax.specs.declared.request.Request.TheVariants as request
 use Rattle.ed_session.specs.Drives.{Log}
-use Rattle.ed_session.specs.KeptAnswers.{Files, found}
+use Rattle.ed_session.specs.KeptAnswers.{Files}
 use Rattle.ed_session.specs.MemFiles.{file_at}
 use Rattle.rehearsal.specs.Rehearsals.{Shown}
 use Rattle.rehearsal.specs.Insides.{Holds}
@@ -33,13 +33,6 @@ shown-real real made path given none = record {
   as_written = λ bytes e. absurd (some-none bytes (sym e ∙ none));
   as_real = λ e. merely (Contains-append_right real ((request.Read path, given) ∷ []) (request.Read path, given) (0, omega arith, refl));
 }
-
--- a file that is held is shown
-pub shown-held : (real : Log) (files made : Files) (path : List ℕ) (o : Option (List ℕ)) → Holds real files made →
-    file_at path files ≡ o → o ≢ None →
-    Shown real made path (found o)
-shown-held real files made path None h e some = absurd (some refl)
-shown-held real files made path (Some bytes) h e some = h.shown path bytes e
 
 -- the file of a path where one more file comes first, which has that path or not
 abbrev at_first : Bool → List ℕ → List ℕ → Files → Option (List ℕ)

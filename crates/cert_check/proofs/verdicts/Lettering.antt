@@ -158,15 +158,6 @@ taken-so script (suc below) (suc count) =
       | false ↦ one-more (length (unnamed_below below script count)) count (count_unnamed below script) (taken-so script below count)
     ]
 
-pub few-left : (script : Script) (below : ℕ) → count_unnamed below script ≤ below
-few-left script zero = omega arith
-few-left script (suc below) =
-    elim (script_names below script) as (λ b.
-    elim b as (λ _. ℕ) [ true ↦ count_unnamed below script | false ↦ suc (count_unnamed below script) ] ≤ suc below) [
-      | true ↦ let few = few-left script below in omega arith
-      | false ↦ let few = few-left script below in omega arith
-    ]
-
 -- there are too few just where the script leaves fewer than are wanted
 lettered-by : (script : Script) (count : ℕ) →
     IsTaken (length (letters_for script count)) count (letters_left script) →
