@@ -15,27 +15,21 @@ use Rattle.ed_syntax.specs.meaning.Effects as effect
 use Rattle.ed_syntax.specs.meaning.Effects.{altered, entered}
 use Rattle.ed_commands.specs.declared.editor.past.Before.{Before}
 use Rattle.ed_commands.specs.declared.editor.past.Change.{Change}
-use Rattle.ed_commands.specs.Earlier.{Earlier, PastValue, earlier_after, earlier_in, earlier_of, kept_of, texts_before, with_earlier}
+use Rattle.ed_commands.specs.Earlier.{PastValue, earlier_after, earlier_in, earlier_of, texts_before, with_earlier}
 use Rattle.ed_commands.specs.Editors.{AreNew, kept_at, left_by, place_beside}
 use Rattle.ed_commands.proofs.Blocks.{block-none, length-block, put-back}
 use Rattle.ed_commands.proofs.Texts.{texts-carried, texts-exchanged, texts-flagged_at, texts-plain}
 
 -- the lines become these, with what is kept of those before
-pub changing : (s : State) (p q : PastValue) (b : Before) (c : Change) (n count : ℕ) (lines new : List Line)
-    (marks : List (Option ℕ)) → texts_before c (texts lines) ≡ texts s.lines → lines ≡ new → n ≡ count →
-    ((e : Earlier) →
-    earlier_after b.listed (kept_of b.current marks (texts s.lines)) e ≡ earlier_after b.listed (kept_at b.current s) e) →
-    earlier_in s ≡ earlier_of p (texts s.lines) →
-    earlier_of q (texts lines) ≡ earlier_after b.listed (kept_of b.current marks (texts_before c (texts lines)))
-    (earlier_of p (texts_before c (texts lines))) →
+pub changing : (s : State) (p q : PastValue) (b : Before) (c : Change) (n count : ℕ) (lines new : List Line) →
+    texts_before c (texts lines) ≡ texts s.lines → lines ≡ new → n ≡ count →
+    earlier_of p (texts s.lines) ≡ earlier_after b.listed (kept_at b.current s) (earlier_in s) →
+    earlier_of q (texts lines) ≡ earlier_of p (texts_before c (texts lines)) →
     with_earlier (earlier_of q (texts lines)) (record s { lines = lines; current = n; changed = true }) ≡ left_by b s
     (altered new count s)
-changing s p q b c n count lines new marks back put at own was kept =
+changing s p q b c n count lines new back put at begun kept =
     let earlier : earlier_of q (texts lines) ≡ earlier_after b.listed (kept_at b.current s) (earlier_in s) =
-    kept
-    ∙ ap (λ t. earlier_after b.listed (kept_of b.current marks t) (earlier_of p t)) back
-    ∙ own (earlier_of p (texts s.lines))
-    ∙ ap (earlier_after b.listed (kept_at b.current s)) (sym was) in
+    kept ∙ ap (earlier_of p) back ∙ begun in
     ap (λ e. with_earlier e (record s { lines = lines; current = n; changed = true })) earlier
     ∙ ap (λ t. with_earlier (earlier_after b.listed (kept_at b.current s) (earlier_in s))
     (record s { lines = t; current = n; changed = true })) put
@@ -90,9 +84,6 @@ moved-back a b place after before back = sym (texts-carried a b place after) ∙
 pub made-new : (lines : List Line) (text : List (List ℕ)) → lines ≡ map plain_line text → AreNew lines
 made-new lines text h = rw h (ap (map plain_line) (texts-plain text))
 
-pub texts-made : (lines : List Line) (text : List (List ℕ)) → lines ≡ map plain_line text → texts lines ≡ text
-texts-made lines text h = ap texts h ∙ texts-plain text
-
 -- each of them is the line of its bytes
 pub new-one : (lines : List Line) (i : ℕ) (line : Line) → AreNew lines → i < length lines → line ≡ get_or lines i line →
     line ≡ plain_line line.bytes
@@ -122,12 +113,6 @@ copied-some a b target s h k l =
     ∙ length-block (a - 1) b s.lines l in
     entered-text target text s (λ none. absurd (omega (arith, ap length none)))
     ∙ ap (λ n. altered (inserted target (map plain_line text) s.lines) (target + n) s) long
-
--- a text before a line, and in place of lines
-pub inserted-some : (text : List (List ℕ)) (x : ranges.Span) (s : State) → text ≢ [] →
-    effect.insert text x s ≡ entered (x.first - 1) text s
-inserted-some [] x s h = absurd (h refl)
-inserted-some (line ∷ more) x s h = refl
 
 pub changed-some : (text : List (List ℕ)) (x : ranges.Span) (s : State) → text ≢ [] →
     effect.change text x s ≡ altered (exchanged (x.first - 1) x.last (map plain_line text) s.lines)

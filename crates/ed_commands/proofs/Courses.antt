@@ -1,8 +1,8 @@
 -- Lines of which no part of their text matches, and lines that are passed over.
-use Rattle.std.proofs.Common.{◌≡◌, ℕ, zero, suc, ◌+◌, ◌-◌, ◌<◌, ◌≤◌, List, [], ◌∷◌, ◌++◌, Option, Some, None, length, take, drop, get_or, refl, sym, ap, ◌∙◌, subst, arith, append-nil, append_assoc}
+use Rattle.std.proofs.Common.{◌≡◌, ℕ, ◌+◌, ◌-◌, ◌<◌, ◌≤◌, List, [], ◌∷◌, ◌++◌, Option, Some, None, length, take, drop, get_or, sym, ap, ◌∙◌, subst, arith, append-nil, append_assoc}
 use Rattle.std.specs.List.{slice_range}
 use Rattle.std.specs.Option.{IfNone}
-use Rattle.std.proofs.lemmas.List.{drop-drop, drop-take, drop_at, get_or-drop, get_or-take, get_or_append_left, get_or_at, length-append, length-drop, length-take-le, take-take, take_all, take_at, take_more}
+use Rattle.std.proofs.lemmas.List.{drop-drop, drop-take, drop_at, get_or-drop, get_or-take, length-append, length-drop, length-take-le, take-take, take_all, take_at, take_more}
 use Rattle.std.proofs.lemmas.Bool.{eq-eqb, eqb-true}
 use Rattle.std.proofs.lemmas.List.Elements.{All-nil, All-cons, All-get_or}
 use Rattle.bre_parse.specs.Tree.{Tree}
@@ -174,10 +174,6 @@ pub none-in-front : (tree : Tree) (text : List ℕ) (before start : ℕ) → lin
     before ≡ length (lines_of (take start text)) → NoneMatches tree (lines_of (take start text)) → NoneMatches tree (take before (lines_of text))
 none-in-front tree text before start cut counted none =
     subst (NoneMatches tree) (sym (ap (take before) cut ∙ take_at (lines_of (take start text)) (lines_of (drop start text)) before (sym counted))) none
-
--- none stands before the first
-pub none-in-nothing : (tree : Tree) (lines : List (List ℕ)) → NoneMatches tree (take 0 lines)
-none-in-nothing tree lines = All-nil (Fails tree)
 
 -- or none is left after them
 pub none-left : (tree : Tree) (text : List ℕ) (start : ℕ) → lines_of text ≡ lines_of (take start text) ++ lines_of (drop start text) →

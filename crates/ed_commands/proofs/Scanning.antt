@@ -100,18 +100,6 @@ left_inside tree text lie from full within =
     ∙ (same_after (λ p f. taken_from (length text - from) tree text p f) (λ p f. left_from tree text p f) from full (match_from tree text from) (lie from within)
     (λ place f further. as_left tree text lie (length text - from) place f (omega arith)))
 
--- past the text's end nothing is left
-pub left_outside : (tree : Tree) (text : List ℕ) (from : ℕ) (full : Bool) → length text < from → left_from tree text from full ≡ []
-left_outside tree text from full past =
-    let count : suc (length text) - from ≡ 0 = omega arith in
-    ap (λ k. taken_from k tree text from full) count
-
--- at the beginning all are left
-pub left_at_first : (tree : Tree) (text : List ℕ) → left_from tree text 0 false ≡ taken tree text
-left_at_first tree text =
-    let count : suc (length text) - 0 ≡ suc (length text) = omega arith in
-    ap (λ k. taken_from k tree text 0 false) count
-
 lies_at : MatchesLieWithin → (tree : Tree) (text : List ℕ) (from : ℕ) → from ≤ length text → (found : Option Found) → match_from tree text from ≡ found → LiesAfter from found
 lies_at law tree text from within None is = tt
 lies_at law tree text from within (Some (start, (end, groups))) is =

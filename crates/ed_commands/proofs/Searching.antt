@@ -9,8 +9,6 @@ use Rattle.std.proofs.lemmas.List.Folds.{find-append}
 use Rattle.bre_parse.specs.Tree.{Tree}
 use Rattle.bre_parse.specs.Grammar.{pattern}
 use Rattle.bre_parse.specs.Match.{match_from}
-use Rattle.bre_match.specs.Learning.{Learns}
-use Rattle.bre_match.specs.declared.learned.Learned.{Learned}
 use Rattle.ed_base.specs.Buffer.{Line, plain_line, texts}
 use Rattle.ed_base.specs.declared.fault.Fault.{Fault}
 use Rattle.ed_base.specs.declared.fault.Fault.TheVariants as fault
@@ -18,17 +16,9 @@ use Rattle.ed_syntax.specs.meaning.States.{State, last}
 use Rattle.ed_syntax.specs.meaning.Values.{count_from, upwards, matches, matches_line, searched, sought}
 use Rattle.ed_commands.specs.Courses.{NoneFrom}
 use Rattle.ed_commands.specs.Editors.{TellsLine, with_pattern}
-use Rattle.ed_commands.specs.Searches.{IsLearnedOf, around, line_after, lines_in}
+use Rattle.ed_commands.specs.Searches.{around, line_after, lines_in}
 use Rattle.ed_commands.specs.declared.editor.searching.Direction.{Direction}
 use Rattle.ed_commands.specs.declared.editor.searching.Direction.TheVariants as to
-
--- what was learned of a pattern by its tree was learned of its text
-pub learned_by_tree : (learned : Learned) (text : List ℕ) (tree : Tree) → pattern text ≡ Ok tree → Learns learned tree → IsLearnedOf learned text
-learned_by_tree learned text tree is learns = rw is learns
-
--- and the other way round
-pub learned_by_text : (learned : Learned) (text : List ℕ) (tree : Tree) → pattern text ≡ Ok tree → IsLearnedOf learned text → Learns learned tree
-learned_by_text learned text tree is learns = rw is at learns
 
 pub matched-by : (text line : List ℕ) (tree : Tree) → pattern text ≡ Ok tree → matches text line ≡ is_some (match_from tree line 0)
 matched-by text line tree h = rw (h, matches) refl

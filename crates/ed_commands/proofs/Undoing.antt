@@ -1,9 +1,10 @@
 -- Changes that are taken back, and those that would do them again.
-use Rattle.std.proofs.Common.{◌≡◌, ℕ, zero, suc, ◌+◌, ◌-◌, ◌<◌, ◌≤◌, Bool, true, false, not, cond, List, [], ◌∷◌, ◌++◌, take, drop, length, map, min, get_or, set, nat_lt, Option, Some, None, refl, sym, subst, ap, ◌∙◌, arith, ⊎_elim}
-use Rattle.std.specs.Prelude.{count_by, option_map}
+use Rattle.std.proofs.Common.{◌≡◌, ℕ, zero, suc, ◌+◌, ◌-◌, ◌<◌, ◌≤◌, Bool, true, false, not, cond, List, [], ◌∷◌, ◌++◌, take, drop, length, map, min, get_or, set, reverse, nat_lt, Option, Some, None, refl, sym, subst, ap, append-nil, ◌∙◌, arith, ⊎_elim}
+use Rattle.std.specs.Prelude.{IfSome, count_by, option_map}
 use Rattle.std.specs.List.{position_or_len}
 use Rattle.std.proofs.lemmas.Bool.{cases_lt, cond-true, lt-ltb}
-use Rattle.std.proofs.lemmas.List.{get_or-take, take_min, drop_all, drop_min, drop_more, length-map, length-take, take-append-drop, drop-append-le}
+use Rattle.std.proofs.lemmas.List.{take_all, take_min, take-take, drop_all, drop_min, drop_more, length-append, length-drop, length-map, length-reverse, length-take, length-take-le, take-append-drop, drop-append-le}
+use borrow.Rule.Slice.PartMut.{post_of, put_mid}
 use Rattle.std.proofs.lemmas.List.Quantifiers.{position-Some}
 use Rattle.std.proofs.Math.Seq.{map-set_same}
 use Rattle.ed_base.specs.Buffer.{Line, plain_line, texts, with_flag, flagged_at, flagged_place}
@@ -16,7 +17,7 @@ use Rattle.ed_commands.specs.declared.editor.past.Change.{Change}
 use Rattle.ed_commands.specs.declared.editor.past.Held.{Held}
 use Rattle.ed_commands.specs.declared.editor.past.OpenGlobal.{OpenGlobal}
 use Rattle.ed_commands.specs.declared.editor.past.Undone.TheVariants as undone
-use Rattle.ed_commands.specs.Earlier.{Earlier, GlobalWithin, HeldWithin, PastValue, Restores, earlier_of, held_buffer, kept_lines, kept_of, open_global, rewound, texts_before, undone_past}
+use Rattle.ed_commands.specs.Earlier.{Earlier, GlobalWithin, HeldWithin, PastValue, Restores, earlier_of, held_buffer, kept_lines, kept_of, open_global, StandsAfter, rewound, texts_before, undone_past}
 use Rattle.ed_commands.proofs.Blocks.{length-exchanged}
 use Rattle.ed_commands.proofs.Kept.{kept-own, rewound-more}
 
@@ -56,16 +57,32 @@ pub rewound-step : (changes : List Change) (i : ℕ) (d : Change) (now : List (L
     rewound (drop i changes) now ≡ texts_before (get_or changes i d) (rewound (drop (i + 1) changes) now)
 rewound-step changes i d now h = ap (λ t. rewound t now) (drop_more changes i d h)
 
--- and one that would do it again
-pub rewound-later : (since : ℕ) (changes : List Change) (c : Change) (now : List (List ℕ)) → since ≤ length changes →
-    rewound (drop since (changes ++ c ∷ [])) now ≡ rewound (drop since changes) (texts_before c now)
-rewound-later since changes c now within =
-    ap (λ t. rewound t now) (drop-append-le since changes (c ∷ []) within) ∙ rewound-more (drop since changes) c now
+-- the changes before one are the same where those up to it are
+pub earlier-kept : {X : Type 0} (i : ℕ) (xs ys : List X) → take (i + 1) xs ≡ take (i + 1) ys → take i xs ≡ take i ys
+earlier-kept i xs ys h =
+    sym (take-take i (i + 1) xs (omega arith)) ∙ ap (take i) h ∙ take-take i (i + 1) ys (omega arith)
 
--- the change that is taken back next is one of those before
-pub next-change : (old changes : List Change) (i count : ℕ) (change : Change) → take count changes ≡ old → i < count → change ≡ get_or changes i change → change ≡ get_or old i change
-next-change old changes i count change front h is =
-    is ∙ sym (get_or-take count changes i change h) ∙ ap (λ t. get_or t i change) front
+-- the last elements of a list in reverse order
+pub reversed-rest : {X : Type 0} (a b count : ℕ) (list whole part : List X) → list ≡ whole → a ≤ length whole → b ≡ length whole → count ≡ length whole →
+    part ≡ reverse (take (b - a) (drop a list)) →
+    take count (put_mid a (b - a) list part ++ drop (length (put_mid a (b - a) list part)) whole) ≡ take a whole ++ reverse (drop a whole)
+reversed-rest a b count list whole part same h last all turns =
+    let k = b - a in
+    let now = put_mid a k list part in
+    let turned : part ≡ reverse (drop a whole) =
+    turns ∙ ap (λ t. reverse (take k (drop a t))) same ∙ ap reverse (take_all k (drop a whole) (omega (arith, length-drop a whole))) in
+    let none : drop k (drop a whole) ≡ [] = drop_all k (drop a whole) (omega (arith, length-drop a whole)) in
+    let is : now ≡ take a whole ++ reverse (drop a whole) =
+    ap (λ t. take a t ++ (part ++ post_of a k t)) same
+    ∙ ap (λ t. take a whole ++ (part ++ t)) none
+    ∙ ap (λ t. take a whole ++ t) (append-nil part ∙ turned) in
+    let size : length now ≡ count =
+    ap length is ∙ length-append (take a whole) (reverse (drop a whole))
+    ∙ omega (arith, length-take-le a whole h, length-reverse (drop a whole), length-drop a whole) in
+    ap (λ t. take count (now ++ t)) (drop_all (length now) whole (omega arith))
+    ∙ ap (take count) (append-nil now)
+    ∙ take_all count now (omega arith)
+    ∙ is
 
 rewound-append : (xs ys : List Change) (now : List (List ℕ)) → rewound (xs ++ ys) now ≡ rewound xs (rewound ys now)
 rewound-append [] ys now = refl
@@ -82,11 +99,13 @@ held-through h old new was now within front back =
     ∙ ap (kept_of h.current h.marks) (rewound-append (drop h.since old) later now)
     ∙ ap (λ t. kept_of h.current h.marks (rewound (drop h.since old) t)) back
 
-pub global-through : (g : Option OpenGlobal) (old new : List Change) (was now : List (List ℕ)) → GlobalWithin (length old) g → take (length old) new ≡ old →
-    rewound (drop (length old) new) now ≡ was → option_map (open_global new now) g ≡ option_map (open_global old was) g
-global-through None old new was now within front back = refl
-global-through (Some o) old new was now within front back =
-    ap (λ k. Some (record { before = k; altered = o.altered })) (held-through o.held old new was now within front back)
+pub global-through : (g : Option OpenGlobal) (since : ℕ) (old new : List Change) (was now : List (List ℕ)) → GlobalWithin (length old) g →
+    IfSome g (λ _. StandsAfter old since new) → rewound (drop since new) now ≡ was → option_map (open_global new now) g ≡ option_map (open_global old was) g
+global-through None since old new was now within after back = refl
+global-through (Some o) since old new was now within after back =
+    let front : take (length old) new ≡ old = ap (λ n. take n new) (sym after.0) ∙ after.1 in
+    let later : rewound (drop (length old) new) now ≡ was = ap (λ n. rewound (drop n new) now) (sym after.0) ∙ back in
+    ap (λ k. Some (record { before = k; altered = o.altered })) (held-through o.held old new was now within front later)
 
 -- a flag that is taken is none the less taken with the others
 pub unflagged-taken : (place : ℕ) (lines : List Line) → unflagged (flagged_at place false lines) ≡ unflagged lines
@@ -124,21 +143,21 @@ texts-bare marks place (line ∷ lines) = ap (λ t. line.bytes ∷ t) (texts-bar
 
 -- the buffer that is held comes in place of the present one, which is held then
 pub restored : (p q : PastValue) (h : Held) (current since line room : ℕ) (marks : List (Option ℕ)) (changes : List Change) (old mid new : List Line) →
-    p.undone ≡ undone.Was h → GlobalWithin (length p.changes) p.global → since ≡ length p.changes → texts mid ≡ rewound (drop h.since p.changes) (texts old) →
-    rewound (drop (length p.changes) changes) (texts mid) ≡ texts old → take (length p.changes) changes ≡ p.changes → lettered marks 0 old ≡ old →
+    p.undone ≡ undone.Was h → GlobalWithin (length p.changes) p.global → IfSome p.global (λ _. StandsAfter p.changes since changes) →
+    texts mid ≡ rewound (drop h.since p.changes) (texts old) → rewound (drop since changes) (texts mid) ≡ texts old → lettered marks 0 old ≡ old →
     new ≡ lettered h.marks 0 (unflagged mid) → line ≡ min h.current (length new) →
     ((now : List (List ℕ)) → earlier_of q now ≡ earlier_of (record { undone = undone.Was (record { current = current; marks = marks; since = since }); global = p.global; changes = changes; room = room }) now) →
     Restores (earlier_of p (texts old)).past current old new (earlier_of p (texts old)) (earlier_of q (texts new)) (Some line)
 unfolding earlier_of
-restored p q h current since line room marks changes old mid new was within counted back again front own put at kept =
+restored p q h current since line room marks changes old mid new was within after back again own put at kept =
     let then = rewound (drop h.since p.changes) (texts old) in
     let global = option_map (open_global changes (texts new)) p.global in
     let is : (earlier_of p (texts old)).past ≡ states.Was (held_buffer h p.changes (texts old)) = ap (λ u. undone_past u p.changes (texts old)) was in
     let same : texts new ≡ texts mid = ap texts put ∙ texts-bare h.marks 0 mid in
-    let through : rewound (drop (length p.changes) changes) (texts new) ≡ texts old = ap (rewound (drop (length p.changes) changes)) same ∙ again in
+    let through : rewound (drop since changes) (texts new) ≡ texts old = ap (rewound (drop since changes)) same ∙ again in
     let long : length new ≡ length then = sym (length-map new (λ (l : Line). l.bytes)) ∙ ap length (same ∙ back) in
     let present : kept_of current marks (rewound (drop since changes) (texts new)) ≡ kept_lines current old =
-    ap (λ n. kept_of current marks (rewound (drop n changes) (texts new))) counted ∙ ap (kept_of current marks) through ∙ kept-own current marks old own in
+    ap (kept_of current marks) through ∙ kept-own current marks old own in
     let before = earlier_of p (texts old) in
     subst (λ k. Restores k current old new before (earlier_of q (texts new)) (Some line)) (sym is) (
       put ∙ lettered-bare h.marks 0 mid ∙ ap (λ t. lettered h.marks 0 (map plain_line t)) back,
@@ -146,7 +165,7 @@ restored p q h current since line room marks changes old mid new was within coun
       kept (texts new)
           ∙ ap (λ k. (let e : Earlier = record { past = states.Was k; global = global } in e)) present
           ∙ ap (λ g. (let e : Earlier = record { past = states.Was (kept_lines current old); global = g } in e))
-          (global-through p.global p.changes changes (texts old) (texts new) within front through),
+          (global-through p.global since p.changes changes (texts old) (texts new) within after through),
     )
 
 -- one line fewer has the flag once it was taken

@@ -1,5 +1,5 @@
 -- Earlier buffers, told from the present one: the one that undo would bring back, and the one before a global command that is open.
-use Rattle.std.specs.Prelude.{ℕ, ◌≡◌, ◌+◌, ◌-◌, ◌≤◌, Bool, false, List, [], ◌∷◌, map, length, drop, min, Option, Some, None, option_map, IfSome}
+use Rattle.std.specs.Prelude.{ℕ, ◌≡◌, ◌+◌, ◌-◌, ◌<◌, ◌≤◌, Bool, false, List, [], ◌∷◌, map, length, drop, min, take, Option, Some, None, option_map, IfSome}
 use Rattle.ed_base.specs.Buffer.{Line, plain_line}
 use Rattle.ed_base.specs.Parts.{carried, exchanged}
 use Rattle.line_store.specs.Marks.{lettered}
@@ -35,6 +35,12 @@ UndoneWithin count (undone.Was h) = HeldWithin count h
 -- nor before the one from before a global command that is open
 abbrev pub GlobalWithin : (count : ℕ) → Option OpenGlobal → Type 0
 GlobalWithin count global = IfSome global (λ o. HeldWithin count o.held)
+
+-- the last change came after each buffer that is held
+pub record OwnsLast (p : PastValue) : Type 0 where
+  pub some : 0 < length p.changes
+  pub undone : UndoneWithin (length p.changes - 1) p.undone
+  pub global : GlobalWithin (length p.changes - 1) p.global
 
 -- what a state keeps of earlier buffers
 pub record Earlier : Type 0 where
@@ -78,10 +84,19 @@ abbrev pub texts_before : Change → List (List ℕ) → List (List ℕ)
 texts_before (change.Replaced from entered removed) now = exchanged from (from + entered) removed now
 texts_before (change.Moved from to place) now = carried place (place + (to - from)) from now
 
+-- the place of what a change brought in is among the lines, or right after them
+abbrev pub StandsIn : Change → (now : List (List ℕ)) → Type 0
+StandsIn (change.Replaced from entered removed) now = from ≤ length now
+StandsIn (change.Moved from to place) now = Unit {0}
+
 -- the texts before several changes, of which the last one is taken back first
 abbrev pub rewound : List Change → List (List ℕ) → List (List ℕ)
 rewound [] now = now
 rewound (c ∷ later) now = texts_before c (rewound later now)
+
+-- changes that stand from this place on, after those that were there before
+abbrev pub StandsAfter : (before : List Change) → (from : ℕ) → (changes : List Change) → Type 0
+StandsAfter before from changes = (from ≡ length before) × (take from changes ≡ before)
 
 -- lines of these texts as undo keeps them, with their letters where they were then
 abbrev pub kept_of : (current : ℕ) → (marks : List (Option ℕ)) → (then : List (List ℕ)) → Kept

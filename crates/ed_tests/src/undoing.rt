@@ -141,12 +141,15 @@ struct GlobalRow {
 
 // A global command takes the flagged line that comes first in the buffer as it is then, and `u` takes back all that its list did.
 #[rattlefmt::skip]
-static GLOBALS: [GlobalRow; 5] = [
+static GLOBALS: [GlobalRow; 7] = [
     GlobalRow { sense: Sense::Matching, pattern: b".", taken: 4, list: b"m0", lines: b"d\nc\nb\na\n", current: 1 },
     GlobalRow { sense: Sense::Matching, pattern: b"[ab]", taken: 2, list: b"d", lines: b"c\nd\n", current: 1 },
     GlobalRow { sense: Sense::Others, pattern: b"[ab]", taken: 2, list: b"s/./&\\&/\nt.\n", lines: b"a\nb\nc&\nc&\nd&\nd&\n", current: 6 },
     GlobalRow { sense: Sense::Matching, pattern: b"[bd]", taken: 2, list: b"-1d", lines: b"b\nd\n", current: 2 },
     GlobalRow { sense: Sense::Matching, pattern: b"[ac]", taken: 2, list: b"1,2d", lines: b"", current: 0 },
+    // What goes out at a place is what came in there before, and more, or less.
+    GlobalRow { sense: Sense::Matching, pattern: b"[bcd]", taken: 3, list: b"1,2j", lines: b"abcd\n", current: 1 },
+    GlobalRow { sense: Sense::Matching, pattern: b"[ab]", taken: 2, list: b"1c\nx\ny\n.\n", lines: b"x\ny\ny\nb\nc\nd\n", current: 2 },
 ];
 
 /// A global command with this pattern, whose list a test applies by itself.
@@ -234,4 +237,57 @@ fn after_a_global_command_that_changed_nothing_undo_does_nothing(rt: HostRuntime
     check_unchanged::<PlainStore>(&rt, rt.alloc());
     check_unchanged::<GapStore>(&rt, rt.alloc());
     check_unchanged::<ChunkStore>(&rt, rt.alloc());
+}
+
+static LATER: GlobalRow = GlobalRow {
+    sense: Sense::Matching,
+    pattern: b"[bc]",
+    taken: 2,
+    list: b"d",
+    lines: b"d\n",
+    current: 1,
+};
+
+fn check_later<S: LineStore>(rt: &impl Abort, alloc: Global) {
+    let mut editor = loaded::<S>(rt, alloc, ABCD);
+    apply(rt, alloc, &mut editor, b"1d\n");
+    run_global(rt, alloc, &mut editor, &LATER);
+    check_lines(rt, alloc, &editor, LATER.lines, LATER.current);
+    apply(rt, alloc, &mut editor, b"u\n");
+    check_lines(rt, alloc, &editor, b"b\nc\nd\n", 1);
+    apply(rt, alloc, &mut editor, b"u\n");
+    check_lines(rt, alloc, &editor, LATER.lines, LATER.current);
+}
+
+#[test]
+fn undo_of_a_global_command_leaves_the_change_before_it(rt: HostRuntime) {
+    check_later::<PlainStore>(&rt, rt.alloc());
+    check_later::<GapStore>(&rt, rt.alloc());
+    check_later::<ChunkStore>(&rt, rt.alloc());
+}
+
+fn check_inside<S: LineStore>(rt: &impl Abort, alloc: Global) {
+    let mut editor = loaded::<S>(rt, alloc, ABCD);
+    apply(rt, alloc, &mut editor, b"1d\n");
+    same(
+        rt,
+        begin_global(rt, alloc, &mut editor, &LATER),
+        2,
+        "the lines that are taken",
+    );
+    assert!(rt; editor.next_global());
+    apply_listed(rt, alloc, &mut editor, b"d\n");
+    apply(rt, alloc, &mut editor, b"u\n");
+    check_lines(rt, alloc, &editor, ABCD, 4);
+    editor.end_global();
+    apply(rt, alloc, &mut editor, b"u\n");
+    check_lines(rt, alloc, &editor, b"b\nc\nd\n", 1);
+}
+
+// A script has no `u` in a list; an editor may be asked for it all the same.
+#[test]
+fn undo_inside_a_global_command_leaves_what_was_before_that(rt: HostRuntime) {
+    check_inside::<PlainStore>(&rt, rt.alloc());
+    check_inside::<GapStore>(&rt, rt.alloc());
+    check_inside::<ChunkStore>(&rt, rt.alloc());
 }

@@ -1,10 +1,10 @@
 -- Lines exchanged and flagged, whose letters are told from places, and how far none has the flag.
-use Rattle.std.proofs.Common.{◌≡◌, ℕ, zero, suc, ◌+◌, ◌-◌, ◌<◌, ◌≤◌, List, [], ◌∷◌, Bool, true, false, length, get_or, set, insert, remove, nat_lt, cond, Option, Some, None, refl, ap, ◌∙◌, sym, subst, arith, get_or-set_same, get_or-set_other, ⊎_elim}
+use Rattle.std.proofs.Common.{◌≡◌, ℕ, zero, suc, ◌+◌, ◌-◌, ◌<◌, ◌≤◌, List, [], ◌∷◌, Bool, true, false, length, get_or, set, insert, remove, nat_lt, cond, Option, Some, None, refl, ap, ◌∙◌, sym, subst, arith, ⊎_elim}
 use Rattle.std.specs.List.{position_or_len}
-use Rattle.std.proofs.lemmas.Bool.{cases_lt, cases_eq, cases_order, cond-true, cond-false, lt-ltb, le-ltb}
-use Rattle.std.proofs.lemmas.List.{get_or_past, get_or_default, set_past}
+use Rattle.std.proofs.lemmas.Bool.{cases_lt, cond-true, cond-false, lt-ltb, le-ltb}
+use Rattle.std.proofs.lemmas.List.{get_or_past, get_or_default}
 use Rattle.std.proofs.lemmas.List.Sums.{position_or_len_is, sum_by-cons, get_or-le-sum_by}
-use Rattle.std.proofs.lemmas.List.Edits.{length-remove, get_or-insert_below, get_or-insert_at, get_or-insert_above, get_or-remove_below, get_or-remove_above}
+use Rattle.std.proofs.lemmas.List.Edits.{length-remove}
 use Rattle.ed_base.specs.Buffer.{Line, plain_line, with_flag, flagged_at, flagged_place, SharesNoLetter}
 use Rattle.line_store.specs.Marks.{lettered, letters_at, AllBelow}
 use Rattle.line_store.specs.Shifts.{with_line, without_line}
@@ -61,55 +61,6 @@ exchanged-below marks i letters lines new h below =
     let fewer = length-remove lines i h in
     with_line-below (length (remove lines i)) (length lines) i letters (without_line i marks) (omega (arith, fewer)) (sym fewer)
     (without_line-below (length lines) (length (remove lines i)) i marks h fewer below)
-
--- how far no line has the flag, where less far is told
-pub unflagged-less : (near far : ℕ) (lines : List Line) → near ≤ far → Unflagged far lines → Unflagged near lines
-unflagged-less near far lines h none i l = none i (omega arith)
-
--- a line came in after those that are told
-pub unflagged-later : (place at : ℕ) (lines : List Line) (new : Line) → place ≤ at → at ≤ length lines → Unflagged place lines → Unflagged place (insert lines at new)
-unflagged-later place at lines new h inside none i l =
-    ap (λ line. line.flag) (get_or-insert_below lines at new (plain_line []) i (omega arith) inside) ∙ none i l
-
--- a line without the flag came in among them
-pub unflagged-among : (place at : ℕ) (lines : List Line) (new : Line) → at ≤ place → at ≤ length lines → new.flag ≡ false → Unflagged place lines → Unflagged (place + 1) (insert lines at new)
-unflagged-among place at lines new h inside bare none i l = ⊎_elim
-    (λ e. ap (λ k. (get_or (insert lines at new) k (plain_line [])).flag) e ∙ ap (λ line. line.flag) (get_or-insert_at lines at new (plain_line []) inside) ∙ bare)
-    (⊎_elim
-    (λ low. ap (λ line. line.flag) (get_or-insert_below lines at new (plain_line []) i low inside) ∙ none i (omega arith))
-    (λ high.
-    let k = i - 1 in
-    let e : i ≡ k + 1 = omega arith in
-    ap (λ n. (get_or (insert lines at new) n (plain_line [])).flag) e
-    ∙ ap (λ line. line.flag) (get_or-insert_above lines at new (plain_line []) k (omega arith) inside) ∙ none k (omega arith)))
-    (cases_order i at)
-
--- a line came in, wherever it stands and whether it has the flag
-pub unflagged-inserted : (place at : ℕ) (lines : List Line) (new : Line) → at ≤ length lines → Unflagged place lines →
-    (at ≤ place → new.flag ≡ false → (next : ℕ) → next ≤ place + 1 → Unflagged next (insert lines at new))
-unflagged-inserted place at lines new inside none h bare next l =
-    unflagged-less next (place + 1) (insert lines at new) l (unflagged-among place at lines new h inside bare none)
-
--- a line went out
-pub unflagged-before : (place i : ℕ) (lines : List Line) → i < place → i < length lines → Unflagged place lines → Unflagged (place - 1) (remove lines i)
-unflagged-before place i lines h inside none k l = ⊎_elim
-    (λ low. ap (λ line. line.flag) (get_or-remove_below lines i (plain_line []) k low inside) ∙ none k (omega arith))
-    (λ high. ap (λ line. line.flag) (get_or-remove_above lines i (plain_line []) k high inside) ∙ none (k + 1) (omega arith))
-    (cases_lt k i)
-
-pub unflagged-after : (place i : ℕ) (lines : List Line) → place ≤ i → i < length lines → Unflagged place lines → Unflagged place (remove lines i)
-unflagged-after place i lines h inside none k l =
-    ap (λ line. line.flag) (get_or-remove_below lines i (plain_line []) k (omega arith) inside) ∙ none k l
-
--- a line came in place of another
-pub unflagged-set : (place i : ℕ) (lines : List Line) (new : Line) → (i < place → new.flag ≡ false) → Unflagged place lines → Unflagged place (set lines i new)
-unflagged-set place i lines new bare none k l = ⊎_elim
-    (λ e. ⊎_elim
-    (λ inside. ap (λ n. (get_or (set lines i new) n (plain_line [])).flag) e ∙ ap (λ line. line.flag) (get_or-set_same lines i new (plain_line []) inside) ∙ bare (omega arith))
-    (λ past. ap (λ t. (get_or t k (plain_line [])).flag) (set_past lines i new past) ∙ none k l)
-    (cases_lt i (length lines)))
-    (λ other. ap (λ line. line.flag) (get_or-set_other lines i k new (plain_line []) other) ∙ none k l)
-    (cases_eq k i)
 
 -- letters change no flag
 flag-lettered : (marks : List (Option ℕ)) (lines : List Line) (k : ℕ) → (get_or (lettered marks 0 lines) k (plain_line [])).flag ≡ (get_or lines k (plain_line [])).flag

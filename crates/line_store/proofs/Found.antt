@@ -2,10 +2,9 @@
 use Rattle.std.proofs.Common.{◌≡◌, ℕ, ◌+◌, ◌-◌, ◌<◌, ◌≤◌, Bool, false, List, [], length, get_or, set, insert, remove, refl, sym, ap, ◌∙◌, arith, length-set, ⊎_elim}
 use Rattle.std.proofs.lemmas.Bool.{cases_lt}
 use Rattle.ed_base.specs.Buffer.{Line, plain_line, with_flag, flagged_at}
-use Rattle.line_store.specs.Chunks.{ChunksValue, StandsIn, Touches, joined, lines_before, with_chunk, room_among}
+use Rattle.line_store.specs.Chunks.{ChunksValue, StandsIn, Touches, joined, lines_before, with_chunk}
 use Rattle.line_store.specs.Flagged.{FirstFlagged}
 use Rattle.line_store.proofs.Joined.{before-within, get_or-joined, joined-set, joined-remove, joined-insert}
-use Rattle.line_store.proofs.Offsets.{room-least}
 
 -- the line stands at this place of this chunk
 pub record Found (i k place : ℕ) (v : ChunksValue) : Type 0 where
@@ -36,14 +35,6 @@ pub flagged-found : {i k place : ℕ} {v : ChunksValue} (new : ChunksValue) (fla
 flagged-found {i} {k} {place} {v} new flag f put =
     exchanged-found new (with_flag flag (get_or (get_or v.chunks k []) place (plain_line []))) f put
     ∙ ap (λ l. set (joined v.chunks) i (with_flag flag l)) (line-found (plain_line []) f)
-
--- there is as much room then
-pub room-found : {i k place : ℕ} {v : ChunksValue} (new : ChunksValue) (line : Line) → Found i k place v →
-    new ≡ with_chunk k (set (get_or v.chunks k []) place line) v → room_among v.chunks ≤ room_among new.chunks
-room-found {i} {k} {place} {v} new line f put =
-    room-least v.chunks new.chunks
-    (omega (arith, ap (λ w. length w.chunks) put, length-set v.chunks k (set (get_or v.chunks k []) place line)))
-    (omega (arith, ap length (exchanged-found new line f put), length-set (joined v.chunks) i line))
 
 -- all but the line
 pub removed-found : {i k place : ℕ} {v : ChunksValue} (new : ChunksValue) → Found i k place v →

@@ -5,10 +5,10 @@ use Rattle.std.proofs.lemmas.Bool.{cases_lt, cases_eq, cases_order, cond-true, c
 use Rattle.std.proofs.lemmas.List.{same_lists, set-set, set_past, get_or_past, get_or_default}
 use Rattle.std.proofs.lemmas.List.Edits.{length-insert, get_or-insert_below, get_or-insert_at, get_or-insert_above, length-remove, get_or-remove_below, get_or-remove_above}
 use Rattle.std.proofs.lemmas.List.FromFn.{length-map-range_with_len, get_or-map-range_with_len, fill_by_all}
-use Rattle.ed_base.specs.Buffer.{Line, plain_line, no_letters, has_letter, with_letter, marked_place, marked_at, SharesNoLetter}
+use Rattle.ed_base.specs.Buffer.{Line, plain_line, has_letter, with_letter, marked_place, marked_at, SharesNoLetter}
 use Rattle.line_store.specs.Marks.{is_at, letters_at, lettered, AllBelow}
 use Rattle.line_store.specs.Shifts.{below, closed, opened, places_below, with_line, without_line}
-use Rattle.line_store.specs.Lettered.{letter-there, none_marked, some_same}
+use Rattle.line_store.specs.Lettered.{letter-there, some_same}
 use Rattle.line_store.proofs.Places.{opened-low, opened-high, closed-there, closed-low, closed-high, opened-below, opened-there, opened-above, closed-below, closed-above, is_there, not_at}
 
 pub length-lettered : (marks : List (Option ℕ)) (place : ℕ) (lines : List Line) → length (lettered marks place lines) ≡ length lines
@@ -238,17 +238,6 @@ with_line-below count more at letters marks h m below letter place e = ⊎_elim
     (λ l. let f : ◌≡◌ {A = Option ℕ} None (Some place) =
     sym (get_or_past (with_line at letters marks) letter None (omega (arith, length-map-range_with_len (λ k. opened at (get_or letters k false) (get_or marks k None)) 0 26))) ∙ e in absurd cc)
     (cases_lt letter 26)
-
--- a place before the line that came in stays
-opened-before : (at : ℕ) (o : Option ℕ) → ((place : ℕ) → o ≡ Some place → place < at) → opened at false o ≡ o
-opened-before at None below = refl
-opened-before at (Some p) below = opened-low at p (below p refl)
-
--- a line without letters after all that are marked changes no place
-pub with_line-after : (at : ℕ) (marks : List (Option ℕ)) → length marks ≡ 26 → AllBelow at marks → marks ≡ with_line at no_letters marks
-with_line-after at marks n below =
-    fill_by_all (λ k. opened at (get_or no_letters k false) (get_or marks k None)) marks 26 None n
-    (λ k b. sym (ap (λ t. opened at t (get_or marks k None)) (none_marked 26 k) ∙ opened-before at (get_or marks k None) (below k)))
 
 -- after a line has gone out, a place is below the lesser count
 below-closed : (count at : ℕ) (o : Option ℕ) → at ≤ count → ((place : ℕ) → o ≡ Some place → place < count + 1) → (place : ℕ) → closed at o ≡ Some place → place < count

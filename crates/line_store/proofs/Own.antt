@@ -1,12 +1,11 @@
 -- Lines have just the letters whose places are read off them, whatever happens to their letters afterwards.
-use Rattle.std.proofs.Common.{subst₂, ◌≤◌, ◌+◌, ◌≡◌, ℕ, zero, suc, ◌<◌, List, [], ◌∷◌, Bool, true, false, length, map, get_or, set, nat_lt, Option, Some, None, position, refl, ap, ◌∙◌, sym, arith, ⊎_elim, insert, remove}
-use Rattle.std.proofs.lemmas.List.Edits.{get_or-insert_below, get_or-insert_at, get_or-insert_above, get_or-remove_below, get_or-remove_above}
+use Rattle.std.proofs.Common.{subst₂, ◌≤◌, ◌+◌, ◌≡◌, ℕ, zero, suc, ◌<◌, List, [], ◌∷◌, Bool, true, false, length, map, get_or, set, nat_lt, Option, Some, None, position, refl, ap, ◌∙◌, sym, arith, ⊎_elim}
 use Rattle.std.specs.List.{position_or_len}
 use Rattle.std.proofs.lemmas.Bool.{cases_lt, cases_eq, cases_Bool, cond-true, lt-ltb, false_from_ne_true}
 use Rattle.std.proofs.lemmas.List.{same_lists, get_or_default, get_or_past}
 use Rattle.std.proofs.lemmas.List.FromFn.{length-map-range_with_len, get_or-map-range_with_len}
 use Rattle.std.proofs.lemmas.List.Quantifiers.{position-Some}
-use Rattle.ed_base.specs.Buffer.{Line, plain_line, no_letters, has_letter, with_letter, marked_place, marked_at, AtMostOnce, KnowLetters, SharesNoLetter}
+use Rattle.ed_base.specs.Buffer.{Line, plain_line, has_letter, with_letter, marked_place, marked_at, AtMostOnce, KnowLetters, SharesNoLetter}
 use Rattle.line_store.specs.Marks.{is_at, letters_at, lettered, marks_of, AllBelow}
 use Rattle.line_store.specs.Lettered.{none_marked}
 use Rattle.line_store.proofs.Places.{is_there, not_at}
@@ -15,10 +14,6 @@ use Rattle.line_store.proofs.Lettered.{length-lettered, get_or-lettered, letters
 -- a line without letters shares none with any
 pub plain_shares_none : (text : List ℕ) (lines : List Line) → SharesNoLetter (plain_line text) lines
 plain_shares_none text lines letter h = let e : false ≡ true = sym (none_marked 26 letter) ∙ h in absurd cc
-
-pub bare_shares_none : (line : Line) (lines : List Line) → line.letters ≡ no_letters → SharesNoLetter line lines
-bare_shares_none line lines e letter h =
-    let f : false ≡ true = sym (none_marked 26 letter) ∙ sym (ap (λ t. get_or t letter false) e) ∙ h in absurd cc
 
 -- a letter's line is found where there is one
 before-end : (p : Line → Bool) (lines : List Line) (k : ℕ) (d : Line) → k < length lines → p (get_or lines k d) ≡ true → position_or_len p lines < length lines
@@ -92,24 +87,3 @@ lettered-lettered marks others place (line ∷ lines) = ap (λ t. record line { 
 place-cases : (o : Option ℕ) → ((k : ℕ) → o ≡ Some k → ⊥) → o ≡ None
 place-cases None h = refl
 place-cases (Some k) h = absurd (h k refl)
-
-pub shares-inserted : (lines : List Line) (at : ℕ) (line : Line) → at ≤ length lines → AtMostOnce (insert lines at line) → SharesNoLetter line lines
-shares-inserted lines at line h once letter has = place-cases (marked_place letter lines) (λ k e.
-    let found = position-Some (has_letter letter) lines k (plain_line []) e in
-    let own : has_letter letter (get_or (insert lines at line) at (plain_line [])) ≡ true = ap (has_letter letter) (get_or-insert_at lines at line (plain_line []) h) ∙ has in
-    ⊎_elim
-    (λ l. let same : k ≡ at = once letter k at (ap (has_letter letter) (get_or-insert_below lines at line (plain_line []) k l h) ∙ found.1) own in absurd (omega arith))
-    (λ l. let same : k + 1 ≡ at = once letter (k + 1) at (ap (has_letter letter) (get_or-insert_above lines at line (plain_line []) k l h) ∙ found.1) own in absurd (omega arith))
-    (cases_lt k at))
-
-pub shares-removed : (lines : List Line) (at : ℕ) → at < length lines → AtMostOnce lines → SharesNoLetter (get_or lines at (plain_line [])) (remove lines at)
-shares-removed lines at h once letter has = place-cases (marked_place letter (remove lines at)) (λ k e.
-    let found = position-Some (has_letter letter) (remove lines at) k (plain_line []) e in
-    ⊎_elim
-    (λ l. let same : k ≡ at = once letter k at (ap (has_letter letter) (sym (get_or-remove_below lines at (plain_line []) k l h)) ∙ found.1) has in absurd (omega arith))
-    (λ l. let same : k + 1 ≡ at = once letter (k + 1) at (ap (has_letter letter) (sym (get_or-remove_above lines at (plain_line []) k l h)) ∙ found.1) has in absurd (omega arith))
-    (cases_lt k at))
-
--- the same, told by what taking a line ensures
-pub shares-taken : (lines left : List Line) (at : ℕ) (line : Line) → at < length lines → AtMostOnce lines → line ≡ get_or lines at (plain_line []) → left ≡ remove lines at → SharesNoLetter line left
-shares-taken lines left at line h once e f = subst₂ SharesNoLetter (sym e) (sym f) (shares-removed lines at h once)

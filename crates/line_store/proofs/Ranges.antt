@@ -1,9 +1,9 @@
 -- Lists into which elements are put, and out of which a range is taken, place by place.
 use Rattle.std.proofs.Common.{◌≡◌, ℕ, suc, ◌+◌, ◌-◌, ◌<◌, ◌≤◌, List, [], ◌∷◌, ◌++◌, take, drop, length, get_or, reverse, refl, sym, ap, ◌∙◌, arith, append_assoc}
 use Rattle.std.specs.Prelude.{remove, insert}
-use Rattle.std.proofs.lemmas.List.{drop_all, drop_more, drop-append-le, take_more, length-append, length-drop, length-take, length-take-le, take-append-drop, take_at, reverse-append, take-append-le, drop_at, take-take, get_or_append_left, get_or-take}
+use Rattle.std.proofs.lemmas.List.{drop_all, drop_more, drop-append-le, take_more, length-drop, length-take, length-take-le, reverse-append, take-append-le, drop_at, take-take, get_or_append_left, get_or-take}
 use Rattle.std.proofs.lemmas.List.Edits.{insert-append_right}
-use Rattle.ed_base.specs.Parts.{block, inserted}
+use Rattle.ed_base.specs.Parts.{block}
 
 pub length-block : {X : Type 0} (a b : ℕ) (xs : List X) → b ≤ length xs → length (block a b xs) ≡ b - a
 length-block a b xs h = length-drop a (take b xs) ∙ ap (λ n. n - a) (length-take-le b xs h)
@@ -18,21 +18,6 @@ insert-between xs ys zs n x h =
     insert-append_right xs (ys ++ zs) (length xs) n x refl (omega arith)
     ∙ ap (λ t. xs ++ t) (insert-append_right ys zs (length ys) (n - length xs) x refl (omega arith))
     ∙ rw (let e : n - length xs - length ys ≡ 0 = omega arith in e) (ap (λ t. xs ++ t) (sym (append_assoc ys (x ∷ []) zs)))
-
--- an element put before others that come in
-pub put-next : {X : Type 0} (n : ℕ) (x : X) (rest xs : List X) → n ≤ length xs →
-    inserted (n + 1) rest (insert xs n x) ≡ inserted n (x ∷ rest) xs
-put-next n x rest xs h =
-    let front = take n xs ++ x ∷ [] in
-    let long : length front ≡ n + 1 = omega (arith, length-append (take n xs) (x ∷ []), length-take-le n xs h) in
-    let put : insert xs n x ≡ front ++ drop n xs =
-    ap (λ t. insert t n x) (sym (take-append-drop n xs))
-    ∙ insert-between (take n xs) [] (drop n xs) n x (omega (arith, length-take-le n xs h))
-    ∙ sym (append_assoc (take n xs) (x ∷ []) (drop n xs)) in
-    ap (inserted (n + 1) rest) put
-    ∙ ap (λ t. t ++ (rest ++ drop (n + 1) (front ++ drop n xs))) (take_at front (drop n xs) (n + 1) long)
-    ∙ ap (λ t. front ++ (rest ++ t)) (drop_at front (drop n xs) (n + 1) long)
-    ∙ append_assoc (take n xs) (x ∷ []) (rest ++ drop n xs)
 
 -- the last element of the first part taken out
 pub remove-last : {X : Type 0} (xs ys : List X) (i j : ℕ) → j ≡ i + 1 → j ≤ length xs →

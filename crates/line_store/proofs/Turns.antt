@@ -1,8 +1,8 @@
 -- Lists that are turned: which element stands where, and what comes of a turn after another.
-use Rattle.std.proofs.Common.{◌≡◌, ◌≢◌, ◌⊎◌, ℕ, ◌+◌, ◌-◌, ◌<◌, ◌≤◌, List, [], ◌∷◌, ◌++◌, take, drop, if◌then◌else◌, length, get_or, set, insert, remove, nat_lt, ap, ◌∙◌, sym, arith, inl, inr, get_or-set_same, get_or-set_other, length-set, append_assoc, add-one, ⊎_elim}
+use Rattle.std.proofs.Common.{◌≡◌, ◌≢◌, ◌⊎◌, ℕ, ◌+◌, ◌-◌, ◌<◌, ◌≤◌, List, [], ◌∷◌, ◌++◌, take, drop, if◌then◌else◌, length, get_or, set, remove, nat_lt, ap, ◌∙◌, sym, arith, inl, inr, get_or-set_same, get_or-set_other, length-set, add-one, ⊎_elim}
 use Rattle.std.proofs.lemmas.Bool.{cases_lt, cases_eq, cond-true, cond-false, lt-ltb, le-ltb}
-use Rattle.std.proofs.lemmas.List.{same_lists, get_or-drop, get_or-take, get_or_append_left, get_or-append_right, length-append, length-drop, length-take-le, take-append-le, drop-append-le}
-use Rattle.std.proofs.lemmas.List.Edits.{insert-append_right, remove-append_right}
+use Rattle.std.proofs.lemmas.List.{same_lists, get_or-drop, get_or-take, get_or_append_left, get_or-append_right, length-append, length-drop, length-take-le}
+use Rattle.std.proofs.lemmas.List.Edits.{remove-append_right}
 use Rattle.line_store.specs.Gaps.{turned}
 
 pub length-turned : {X : Type 0} (count : ℕ) (list : List X) → count ≤ length list → length (turned count list) ≡ length list
@@ -72,18 +72,6 @@ gap-up after by list h k = turned-twice (after - by) by after list (omega arith)
 pub gap-down : {X : Type 0} (after by : ℕ) (list : List X) → after + by ≤ length list →
     turned (after + by) (drop (length list - by) list ++ take (length list - by) list) ≡ turned after list
 gap-down after by list h = turned-twice (after + by) (length list - by) after list h (omega arith) (omega arith) (inr (omega arith))
-
--- an element comes in at the gap
-pub turned-push : {X : Type 0} (after : ℕ) (list : List X) (x : X) → after ≤ length list → turned after (list ++ x ∷ []) ≡ insert (turned after list) (length list - after) x
-turned-push after list x h =
-    let front = drop after list in
-    let back = take after list in
-    let n : length front ≡ length list - after = length-drop after list in
-    ap (λ t. t ++ take after (list ++ x ∷ [])) (drop-append-le after list (x ∷ []) h)
-    ∙ ap (λ t. (front ++ x ∷ []) ++ t) (take-append-le after list (x ∷ []) h)
-    ∙ append_assoc front (x ∷ []) back
-    ∙ sym (insert-append_right front back (length list - after) (length list - after) x n (omega arith)
-    ∙ ap (λ m. front ++ insert back m x) (let e : (length list - after) - (length list - after) ≡ 0 = omega arith in e))
 
 -- an element goes out after the gap
 pub turned-pop : {X : Type 0} (after : ℕ) (x : X) (list : List X) → after ≤ length list → turned after list ≡ remove (turned (after + 1) (x ∷ list)) (length list - after)

@@ -5,6 +5,8 @@ ghost use Rattle.ed_base.specs.Lines.{lines_of};
 ghost use Rattle.line_store.specs.Chunks.{joined};
 ghost use Rattle.line_store.specs.Kept.{flag_count};
 
+mod growing;
+
 use crate::chunk::{Chunk, FULL};
 use crate::{BareLine, BareLines, FileLines, Line};
 use std::alloc::{AllocError, Global};

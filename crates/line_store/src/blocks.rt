@@ -105,6 +105,17 @@ fn put_each<L: BareLines>(list: Vec<BareLine>, at: usize, lines: &mut L)
     }
 }
 
+/// Takes a single line out, without its flag, for which none comes in. It takes no memory.
+fn take_one<L: BareLines>(from: usize, to: usize, none: Block, lines: &mut L) -> Block
+    requires one { to ≡ from + 1 }
+    requires last { to ≤ length (L.items lines.old) }
+    requires none { length none ≡ 0 }
+    ensures taken { result ≡ texts (block from to (L.items lines.old)) }
+    ensures put { CameIn from to none (L.items lines.old) (L.items lines.new) }
+{
+    Block::of_bare(lines.remove(from))
+}
+
 /// Puts the lines of a block in place of others of a list of which so many lines have the flag.
 pub(crate) fn exchange_lines<L: BareLines>(
     alloc: Global,
@@ -122,6 +133,9 @@ pub(crate) fn exchange_lines<L: BareLines>(
     ensures handed_back { IfErr result (λ back. back ≡ new) }
     ensures unchanged { OnErr result (L.items lines.new ≡ L.items lines.old) }
 {
+    if to - from == 1 && new.len() == 0 {
+        return Ok(take_one(from, to, new, lines));
+    }
     // Lines that have the flag are taken one by one, without it.
     if flags > 0 {
         return exchange_each(alloc, from, to, new, lines);

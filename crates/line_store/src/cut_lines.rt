@@ -10,7 +10,10 @@ ghost use Rattle.line_store.specs.Kept.{flag_count};
 ghost use Rattle.line_store.specs.Swaps.{swapped};
 ghost use Rattle.line_store.specs.Uncut.{StandUncut};
 
+mod copying;
+
 use crate::blocks::{exchange_lines, flags_among};
+use crate::chunk::FULL;
 use crate::swaps::swap_blocks;
 use crate::{BareLine, BareLines, Block, FileLines, UncutLines};
 use ed_base::Pieces;
@@ -343,6 +346,9 @@ impl<L: BareLines> CutLines<L> {
     {
         if to - from == 1 {
             return Ok(Block::of_bare(self.plain_copy(from)?));
+        }
+        if to - from >= FULL {
+            return self.copy_chunks(alloc, from, to);
         }
         let mut copies = Vec::with_capacity(alloc, to - from)?;
         for i in from..to {

@@ -173,6 +173,9 @@ impl Marks {
         requires room { count - (to - from) + entered < 2 ^ 64 }
         ensures value { self.new ≡ places_exchanged from to count entered self.old }
     {
+        if self.unused {
+            return;
+        }
         let left = count - (to - from);
         self.swap_places(from, to, count);
         *self = self.among(left);

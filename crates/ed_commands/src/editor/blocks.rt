@@ -134,63 +134,47 @@ fn exchange_one<S: LineStore>(
     }
 }
 
-/// Puts the lines of a block in place of another, which is handed back. Where there is no room for that, the store is as before.
+/// Puts the lines of a block in place of another, which is handed back. Where there is no room for that the new one comes back, and the
+/// store is as before. No other line moves where a single one comes in place of another.
 pub fn exchange_block<S: LineStore>(
     from: usize,
     to: usize,
     new: Block,
     store: &mut S,
-) -> Result<Block, AllocError>
+) -> Result<Block, Block>
     requires order { from ≤ to }
     requires last { to ≤ length (S.lines store.old) }
     ensures taken { IfOk result (λ taken. taken ≡ texts (block from to (S.lines store.old))) }
     ensures put { OnOk result (S.lines store.new ≡ exchanged from to (map plain_line new) (S.lines store.old)) }
+    ensures handed_back { IfErr result (λ back. back ≡ new) }
     ensures unchanged { OnErr result (S.lines store.new ≡ S.lines store.old) }
 {
     if to - from == 1 {
         return exchange_line(from, to, new, store);
     }
-    exchange_whole(from, to, new, store)
+    store.exchange_block(from, to, new)
 }
 
-/// The same for one line: no other line moves where another single one comes in its place.
+/// The same for one line.
 fn exchange_line<S: LineStore>(
     from: usize,
     to: usize,
     new: Block,
     store: &mut S,
-) -> Result<Block, AllocError>
+) -> Result<Block, Block>
     requires one { to ≡ from + 1 }
     requires last { to ≤ length (S.lines store.old) }
     ensures taken { IfOk result (λ taken. taken ≡ texts (block from to (S.lines store.old))) }
     ensures put { OnOk result (S.lines store.new ≡ exchanged from to (map plain_line new) (S.lines store.old)) }
+    ensures handed_back { IfErr result (λ back. back ≡ new) }
     ensures unchanged { OnErr result (S.lines store.new ≡ S.lines store.old) }
 {
     match new.into_line() {
         Ok(line) => match store.exchange(from, line) {
             Ok(before) => Ok(Block::of(before)),
-            Err(_refused) => Err(AllocError),
+            Err(refused) => Err(Block::of(refused)),
         },
-        Err(new) => exchange_whole(from, to, new, store),
-    }
-}
-
-/// The same for any lines.
-fn exchange_whole<S: LineStore>(
-    from: usize,
-    to: usize,
-    new: Block,
-    store: &mut S,
-) -> Result<Block, AllocError>
-    requires order { from ≤ to }
-    requires last { to ≤ length (S.lines store.old) }
-    ensures taken { IfOk result (λ taken. taken ≡ texts (block from to (S.lines store.old))) }
-    ensures put { OnOk result (S.lines store.new ≡ exchanged from to (map plain_line new) (S.lines store.old)) }
-    ensures unchanged { OnErr result (S.lines store.new ≡ S.lines store.old) }
-{
-    match store.exchange_block(from, to, new) {
-        Ok(taken) => Ok(taken),
-        Err(_refused) => Err(AllocError),
+        Err(new) => store.exchange_block(from, to, new),
     }
 }
 
@@ -211,8 +195,10 @@ pub fn copy_block<S: LineStore>(
 {
     store.open(to)?;
     let copies = store.copy_block(from, to)?;
-    exchange_whole(target, target, copies, store)?;
-    Ok(())
+    match store.exchange_block(target, target, copies) {
+        Ok(_none) => Ok(()),
+        Err(_refused) => Err(AllocError),
+    }
 }
 
 /// Carries the lines of a span after line `target`, which is none of them, with their letters, and tells the line of the

@@ -35,18 +35,17 @@ impl<S: LineStore> Editor<S> {
         ensures failed { self.new.failed ≡ self.old.failed }
     {
         self.past.reserve()?;
-        let marks = before.marks(&self.store);
+        self.past.begin(before, &self.store);
         let entered = lines.len();
         let after = self.store.len() - to;
         let removed = exchange(self.alloc, from, to, lines, &mut self.store)?;
         self.current = self.store.len() - after;
         self.changed = true;
-        let change = Change::Replaced {
+        self.past.add(Change::Replaced {
             from,
             entered,
             removed,
-        };
-        self.past.keep(before, marks, change);
+        });
         Ok(())
     }
 
@@ -68,19 +67,18 @@ impl<S: LineStore> Editor<S> {
             return Ok(());
         }
         self.past.reserve()?;
-        let marks = before.marks(&self.store);
+        self.past.begin(before, &self.store);
         let count = self.store.len();
         let file = FileLines::shared(self.alloc, block);
         put_file(file, place, &mut self.store)?;
         let now = self.store.len();
         self.current = now - (count - place);
         self.changed = true;
-        let change = Change::Replaced {
+        self.past.add(Change::Replaced {
             from: place,
             entered: now - count,
             removed: Block::new(self.alloc),
-        };
-        self.past.keep(before, marks, change);
+        });
         Ok(())
     }
 

@@ -1,9 +1,10 @@
 //! What undo would bring back, and the buffer before an open global command.
-ghost use Rattle.std.specs.Prelude.{◌≡◌, ◌≢◌, ◌<◌, ◌≤◌, ℕ, List, IfErr, IfOk, IfSome, OnOk, drop, length};
+ghost use Rattle.std.specs.Prelude.{◌≡◌, ◌≢◌, ◌+◌, ◌<◌, ◌≤◌, ℕ, List, IfErr, IfOk, IfSome, IsTrue, OnErr, OnOk, drop, length};
 ghost use Rattle.ed_base.specs.Buffer.{texts};
+ghost use Rattle.ed_base.specs.Parts.{exchanged};
 ghost use Rattle.ed_base.specs.declared.fault.Fault.TheVariants.{Memory, Undo};
 ghost use Rattle.ed_syntax.specs.meaning.States.{Nothing};
-ghost use Rattle.ed_commands.specs.Earlier.{Earlier, Restores, closing, earlier_after, earlier_of, kept_lines, kept_of, nothing_earlier, noting, opening_global, texts_before, undoing};
+ghost use Rattle.ed_commands.specs.Earlier.{Earlier, GlobalWithin, OwnsLast, Restores, StandsIn, UndoneWithin, closing, earlier_after, earlier_of, kept_lines, kept_of, nothing_earlier, noting, opening_global, texts_before, undoing};
 
 use crate::editor::undoing::{rewind, take_flags};
 use ed_base::Fault;
@@ -95,6 +96,81 @@ pub struct Past {
     changes: Vec<Change>,
 }
 
+impl Undone {
+    /// Whether no more than so many changes came before the buffer.
+    fn is_within(&self, count: usize) -> bool
+        ensures within { IsTrue result → UndoneWithin count self.now }
+    {
+        match self {
+            Undone::Was(held) => held.since <= count,
+            Undone::Nothing | Undone::Same => true,
+        }
+    }
+}
+
+impl OpenGlobal {
+    /// Whether no more than so many changes came before one that is open.
+    fn is_within(global: &Option<OpenGlobal>, count: usize) -> bool
+        ensures within { IsTrue result → GlobalWithin count global.now }
+    {
+        match global {
+            Some(open) => open.held.since <= count,
+            None => true,
+        }
+    }
+}
+
+impl Change {
+    /// Whether both are of lines that were replaced at the same place.
+    fn is_at_place_of(&self, other: &Change) -> bool {
+        match (self, other) {
+            (Change::Replaced { from, .. }, Change::Replaced { from: place, .. }) => *from
+                == *place,
+            _ => false,
+        }
+    }
+
+    /// Makes one change of this one and a later one. Lines that came in with the first and went out with the second aren't held then.
+    /// Where they aren't of one place, or more lines came in than went out, or there is no memory, the later one comes back.
+    fn join(&mut self, alloc: Global, later: Change) -> Result<(), Change>
+        ensures joined { OnOk result ((now : List (List ℕ)) → StandsIn later now →
+            texts_before self.new now ≡ texts_before self.old (texts_before later now)) }
+        ensures handed_back { IfErr result (λ back. back ≡ later) }
+        ensures kept { OnErr result (self.new ≡ self.old) }
+    {
+        match self {
+            Change::Replaced {
+                from,
+                entered,
+                removed,
+            } => join_replaced(alloc, *from, entered, removed, later),
+            Change::Moved { .. } => Err(later),
+        }
+    }
+
+    /// The same change once more, which shares the lines.
+    pub fn try_copy(&self, alloc: Global) -> Result<Self, AllocError>
+        ensures value { IfOk result (λ copy. copy ≡ self.now) }
+    {
+        match self {
+            Change::Replaced {
+                from,
+                entered,
+                removed,
+            } => Ok(Change::Replaced {
+                from: *from,
+                entered: *entered,
+                removed: removed.try_copy(alloc)?,
+            }),
+            Change::Moved { from, to, place } => Ok(Change::Moved {
+                from: *from,
+                to: *to,
+                place: *place,
+            }),
+        }
+    }
+}
+
 impl Model for Past {
     ghost use Rattle.std.specs.Prelude.{◌-◌, length, vec_capacity, vec_len};
     ghost use Rattle.ed_commands.specs.Earlier.{GlobalWithin, PastValue, UndoneWithin};
@@ -128,18 +204,6 @@ impl Past {
         self.changes.reserve(1)
     }
 
-    /// Keeps what there was before a change, of which the letters were at `marks`; of a listed command, what was kept, wherever they
-    /// were.
-    pub fn keep(&mut self, before: Before, marks: Marks, change: Change)
-        requires room { 0 < self.old.room }
-        ensures kept { (now : List (List ℕ)) →
-            earlier_of self.new now ≡ earlier_after before.listed (kept_of before.current marks (texts_before change now))
-            (earlier_of self.old (texts_before change now)) }
-    {
-        self.begin_with(before, marks);
-        self.add(change);
-    }
-
     /// From here on the changes are those of a command, before which these were the lines: what there was then is kept; of a listed
     /// command, what was kept, and then it isn't looked where the letters are. A global command that is open knows of the change.
     pub fn begin<S: LineStore>(&mut self, before: Before, store: &S)
@@ -154,8 +218,8 @@ impl Past {
         }
     }
 
-    /// The same, where the letters were at `marks`.
-    fn begin_with(&mut self, before: Before, marks: Marks)
+    /// The same, where the letters were at `marks`, which aren't looked at for a listed command.
+    pub fn begin_with(&mut self, before: Before, marks: Marks)
         ensures kept { (now : List (List ℕ)) →
             earlier_of self.new now ≡ earlier_after before.listed (kept_of before.current marks now) (earlier_of self.old now) }
         ensures keeps_room { 0 < self.old.room → 0 < self.new.room }
@@ -194,8 +258,49 @@ impl Past {
         });
     }
 
-    /// One more change of a command: what there was before it stays kept.
+    /// One more change of a command: what there was before it stays kept. It is joined to the one before where both are of one place, so
+    /// that a line that grows again and again isn't held at each of its lengths.
     pub fn add(&mut self, change: Change)
+        requires room { 0 < self.old.room }
+        ensures kept { (now : List (List ℕ)) → StandsIn change now → earlier_of self.new now ≡ earlier_of self.old (texts_before change now) }
+    {
+        if self.joins(&change) {
+            self.add_to_last(change);
+        } else {
+            self.push(change);
+        }
+    }
+
+    /// Whether a change is of one place with the last one, and no buffer is held between them.
+    fn joins(&self, change: &Change) -> bool
+        ensures joins { IsTrue result → OwnsLast self.now }
+    {
+        match self.changes.len().checked_sub(1) {
+            Some(last) => {
+                self.changes[last].is_at_place_of(change)
+                    && self.undone.is_within(last)
+                    && OpenGlobal::is_within(&self.global, last)
+            }
+            None => false,
+        }
+    }
+
+    /// Joins a change to the last one, or puts it after that.
+    fn add_to_last(&mut self, change: Change)
+        requires last { OwnsLast self.old }
+        requires room { 0 < self.old.room }
+        ensures kept { (now : List (List ℕ)) → StandsIn change now → earlier_of self.new now ≡ earlier_of self.old (texts_before change now) }
+    {
+        let alloc = *self.changes.allocator();
+        let last = self.changes.len() - 1;
+        match self.changes[last].join(alloc, change) {
+            Ok(()) => {}
+            Err(change) => self.changes.push_reserved(change),
+        }
+    }
+
+    /// Puts a change after all others.
+    fn push(&mut self, change: Change)
         requires room { 0 < self.old.room }
         ensures kept { (now : List (List ℕ)) → earlier_of self.new now ≡ earlier_of self.old (texts_before change now) }
     {
@@ -262,8 +367,7 @@ impl Past {
             Undone::Was(held) => held,
         };
         let marks = Marks::of(store);
-        let since = self.changes.len();
-        rewind(alloc, held.since, &mut self.changes, store)?;
+        let since = rewind(alloc, &self.global, held.since, &mut self.changes, store)?;
         take_flags(store);
         store.set_marks(&held.marks);
         let line = held.current.min(store.len());
@@ -288,6 +392,48 @@ impl Past {
             drop_front(&mut self.changes, held.since);
             held.since = 0;
         }
+    }
+}
+
+/// The same, where the first one replaced lines after line `from`.
+fn join_replaced(
+    alloc: Global,
+    from: usize,
+    entered: &mut usize,
+    removed: &mut Block,
+    later: Change,
+) -> Result<(), Change>
+    ensures joined { OnOk result ((now : List (List ℕ)) → StandsIn later now →
+        exchanged from (from + entered.new) removed.new now ≡ exchanged from (from + entered.old) removed.old (texts_before later now)) }
+    ensures handed_back { IfErr result (λ back. back ≡ later) }
+    ensures kept { OnErr result ((entered.new ≡ entered.old) × (removed.new ≡ removed.old)) }
+{
+    match later {
+        Change::Replaced {
+            from: place,
+            entered: more,
+            removed: block,
+        } => {
+            if place != from {
+                return Err(Change::Replaced {
+                    from: place,
+                    entered: more,
+                    removed: block,
+                });
+            }
+            match removed.append(alloc, *entered, block) {
+                Ok(()) => {
+                    *entered = more;
+                    Ok(())
+                }
+                Err(block) => Err(Change::Replaced {
+                    from: place,
+                    entered: more,
+                    removed: block,
+                }),
+            }
+        }
+        later => Err(later),
     }
 }
 

@@ -58,15 +58,15 @@ impl<S: LineStore> Editor<S> {
         self.past.reserve()?;
         let marks = before.marks(&self.store);
         let place = carry(span, target, &mut self.store)?;
+        self.past.begin_with(before, marks);
         let from = span.first - 1;
         self.current = place + (span.last - from);
         self.changed = true;
-        let change = Change::Moved {
+        self.past.add(Change::Moved {
             from,
             to: span.last,
             place,
-        };
-        self.past.keep(before, marks, change);
+        });
         Ok(())
     }
 
@@ -86,18 +86,17 @@ impl<S: LineStore> Editor<S> {
         ensures failed { self.new.failed ≡ self.old.failed }
     {
         self.past.reserve()?;
-        let marks = before.marks(&self.store);
+        self.past.begin(before, &self.store);
         let from = span.first - 1;
         let after = self.store.len() - target;
         copy_block(from, span.last, target, &mut self.store)?;
         self.current = self.store.len() - after;
         self.changed = true;
-        let change = Change::Replaced {
+        self.past.add(Change::Replaced {
             from: target,
             entered: span.last - from,
             removed: Block::new(self.alloc),
-        };
-        self.past.keep(before, marks, change);
+        });
         Ok(())
     }
 }

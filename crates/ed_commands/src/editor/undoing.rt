@@ -1,23 +1,52 @@
 //! `u`: changes are taken back (XCU ed, "Undo Command").
-ghost use Rattle.std.specs.Prelude.{◌≡◌, ◌+◌, ◌-◌, ◌≤◌, [], length, map, take, drop, IfOk, OnOk};
-ghost use Rattle.ed_base.specs.Buffer.{plain_line, texts};
+ghost use Rattle.std.specs.Prelude.{◌≡◌, ◌+◌, ◌-◌, ◌≤◌, ◌++◌, [], length, map, take, drop, IfOk, IfSome, OnErr, OnOk};
+ghost use Rattle.ed_base.specs.Buffer.{texts};
 ghost use Rattle.ed_base.specs.Parts.{carried, exchanged};
 ghost use Rattle.ed_syntax.specs.meaning.States.{unflagged};
 ghost use Rattle.ed_syntax.specs.meaning.Effects as effect;
 ghost use Rattle.ed_syntax.specs.meaning.Effects.{only};
-ghost use Rattle.ed_commands.specs.Earlier.{rewound, texts_before};
+ghost use Rattle.ed_commands.specs.Earlier.{StandsAfter, rewound, texts_before};
 ghost use Rattle.ed_commands.specs.Editors.{Tells};
 
 use crate::editor::Editor;
 use crate::editor::blocks::exchange_block;
-use crate::editor::past::Change;
+use crate::editor::past::{Change, OpenGlobal};
 use ed_base::Fault;
 use line_store::{Block, LineStore};
 use std::alloc::{AllocError, Global};
+use std::mem;
 
-/// Takes back all changes but the first so many, the last one first, and appends those that would do them again. It
-/// costs no more than they did.
+/// Takes back all changes but the first so many, and tells from where on those stand now that would do them again. It costs no more
+/// than they did. What was before a global command that is open is told from the changes as they are, so then they stay, too.
 pub fn rewind<S: LineStore>(
+    alloc: Global,
+    global: &Option<OpenGlobal>,
+    since: usize,
+    changes: &mut Vec<Change>,
+    store: &mut S,
+) -> Result<usize, AllocError>
+    requires since { since ≤ length changes.old.items }
+    ensures texts { OnOk result (texts (S.lines store.new) ≡ rewound (drop since changes.old.items) (texts (S.lines store.old))) }
+    ensures again { IfOk result (λ from. rewound (drop from changes.new.items) (texts (S.lines store.new)) ≡ texts (S.lines store.old)) }
+    ensures within { IfOk result (λ from. from ≤ length changes.new.items) }
+    ensures earlier { IfOk result (λ from. IfSome global.now (λ _. StandsAfter changes.old.items from changes.new.items)) }
+    ensures no_fewer { length changes.old.items ≤ length changes.new.items }
+{
+    match global {
+        None => {
+            rewind_from(alloc, since, changes, store)?;
+            Ok(since)
+        }
+        Some(_open) => {
+            let count = changes.len();
+            rewind_copies(alloc, since, changes, store)?;
+            Ok(count)
+        }
+    }
+}
+
+/// Takes back all changes but the first so many, and puts those after all of them that would do them again.
+fn rewind_copies<S: LineStore>(
     alloc: Global,
     since: usize,
     changes: &mut Vec<Change>,
@@ -27,84 +56,133 @@ pub fn rewind<S: LineStore>(
     ensures texts { OnOk result (texts (S.lines store.new) ≡ rewound (drop since changes.old.items) (texts (S.lines store.old))) }
     ensures again { OnOk result
         (rewound (drop (length changes.old.items) changes.new.items) (texts (S.lines store.new)) ≡ texts (S.lines store.old)) }
-    ensures earlier { take (length changes.old.items) changes.new.items ≡ changes.old.items }
-    ensures longer { length changes.old.items ≤ length changes.new.items }
+    ensures earlier { OnOk result (take (length changes.old.items) changes.new.items ≡ changes.old.items) }
+    ensures no_fewer { length changes.old.items ≤ length changes.new.items }
 {
     let count = changes.len();
-    changes.reserve(count - since)?;
-    for i in (since..count).rev() {
-        let again = take_back(alloc, &changes[i], store)?;
-        changes.push_reserved(again);
+    repeat_changes(alloc, since, changes)?;
+    rewind_from(alloc, count, changes, store)?;
+    Ok(())
+}
+
+/// The changes but the first so many once more, after all others. They share the lines.
+fn repeat_changes(alloc: Global, since: usize, changes: &mut Vec<Change>) -> Result<(), AllocError>
+    requires since { since ≤ length changes.old.items }
+    ensures repeated { OnOk result (changes.new.items ≡ changes.old.items ++ drop since changes.old.items) }
+    ensures no_fewer { length changes.old.items ≤ length changes.new.items }
+{
+    for i in since..changes.len() {
+        let copy = changes[i].try_copy(alloc)?;
+        changes.push(copy)?;
     }
     Ok(())
 }
 
-/// Takes back what a command did to the lines, and tells the change that would do it again.
+/// Takes back all changes but the first so many, the last one first, and puts those in their place that would do them again.
+fn rewind_from<S: LineStore>(
+    alloc: Global,
+    since: usize,
+    changes: &mut Vec<Change>,
+    store: &mut S,
+) -> Result<(), AllocError>
+    requires since { since ≤ length changes.old.items }
+    ensures texts { OnOk result (texts (S.lines store.new) ≡ rewound (drop since changes.old.items) (texts (S.lines store.old))) }
+    ensures again { OnOk result (rewound (drop since changes.new.items) (texts (S.lines store.new)) ≡ texts (S.lines store.old)) }
+    ensures earlier { OnOk result (take since changes.new.items ≡ take since changes.old.items) }
+    ensures count { length changes.new.items ≡ length changes.old.items }
+{
+    let count = changes.len();
+    for i in (since..count).rev() {
+        take_back(alloc, &mut changes[i], store)?;
+    }
+    changes[since..count].reverse();
+    Ok(())
+}
+
+/// Takes back what a command did to the lines, and turns the change into the one that would do it again. After an `Err` both are as
+/// before.
 fn take_back<S: LineStore>(
     alloc: Global,
-    change: &Change,
+    change: &mut Change,
     store: &mut S,
-) -> Result<Change, AllocError>
-    ensures texts { OnOk result (texts (S.lines store.new) ≡ texts_before change.now (texts (S.lines store.old))) }
-    ensures again { IfOk result (λ again. texts_before again (texts (S.lines store.new)) ≡ texts (S.lines store.old)) }
+) -> Result<(), AllocError>
+    ensures texts { OnOk result (texts (S.lines store.new) ≡ texts_before change.old (texts (S.lines store.old))) }
+    ensures again { OnOk result (texts_before change.new (texts (S.lines store.new)) ≡ texts (S.lines store.old)) }
+    ensures kept { OnErr result (change.new ≡ change.old) }
+    ensures unchanged { OnErr result (S.lines store.new ≡ S.lines store.old) }
 {
     match change {
         Change::Replaced {
             from,
             entered,
             removed,
-        } => put_back(alloc, *from, *entered, removed, store),
-        Change::Moved { from, to, place } => carry_back(*from, *to, *place, store),
+        } => put_back(alloc, from, entered, removed, store),
+        Change::Moved { from, to, place } => carry_back(from, to, place, store),
     }
 }
 
-/// Puts lines that went out in place of those that came in for them. There are no lines after the last one.
+/// Puts lines that went out in place of those that came in for them, which are what went out then. There are no lines after the last
+/// one.
 fn put_back<S: LineStore>(
     alloc: Global,
-    from: usize,
-    entered: usize,
-    removed: &Block,
+    from: &mut usize,
+    entered: &mut usize,
+    removed: &mut Block,
     store: &mut S,
-) -> Result<Change, AllocError>
+) -> Result<(), AllocError>
     ensures texts { OnOk result
-        (texts (S.lines store.new) ≡ exchanged from (from + entered) removed.now (texts (S.lines store.old))) }
-    ensures again { IfOk result (λ again. texts_before again (texts (S.lines store.new)) ≡ texts (S.lines store.old)) }
+        (texts (S.lines store.new) ≡ exchanged from.old (from.old + entered.old) removed.old (texts (S.lines store.old))) }
+    ensures again { OnOk result
+        (exchanged from.new (from.new + entered.new) removed.new (texts (S.lines store.new)) ≡ texts (S.lines store.old)) }
+    ensures kept { OnErr result ((from.new ≡ from.old) × (entered.new ≡ entered.old) × (removed.new ≡ removed.old)) }
+    ensures unchanged { OnErr result (S.lines store.new ≡ S.lines store.old) }
 {
     let last = store.len();
-    let from = from.min(last);
-    let to = from.saturating_add(entered).min(last);
-    let new = removed.try_copy(alloc)?;
-    let removed = exchange_block(from, to, new, store)?;
-    let reached = store.len() - (last - to);
-    let entered = reached - from;
-    Ok(Change::Replaced {
-        from,
-        entered,
-        removed,
-    })
+    let first = (*from).min(last);
+    let to = first.saturating_add(*entered).min(last);
+    // The lines themselves come in: a copy of them would cost as much as they are many.
+    let new = mem::replace(removed, Block::new(alloc));
+    match exchange_block(first, to, new, store) {
+        Ok(taken) => {
+            let reached = store.len() - (last - to);
+            *removed = taken;
+            *entered = reached - first;
+            *from = first;
+            Ok(())
+        }
+        Err(refused) => {
+            *removed = refused;
+            Err(AllocError)
+        }
+    }
 }
 
 /// Carries lines that were carried from after line `from` up to line `to` back there from after line `place`.
 fn carry_back<S: LineStore>(
-    from: usize,
-    to: usize,
-    place: usize,
+    from: &mut usize,
+    to: &mut usize,
+    place: &mut usize,
     store: &mut S,
-) -> Result<Change, AllocError>
-    ensures texts { OnOk result (texts (S.lines store.new) ≡ carried place (place + (to - from)) from (texts (S.lines store.old))) }
-    ensures again { IfOk result (λ again. texts_before again (texts (S.lines store.new)) ≡ texts (S.lines store.old)) }
+) -> Result<(), AllocError>
+    ensures texts { OnOk result
+        (texts (S.lines store.new) ≡ carried place.old (place.old + (to.old - from.old)) from.old (texts (S.lines store.old))) }
+    ensures again { OnOk result
+        (carried place.new (place.new + (to.new - from.new)) from.new (texts (S.lines store.new)) ≡ texts (S.lines store.old)) }
+    ensures kept { OnErr result ((from.new ≡ from.old) × (to.new ≡ to.old) × (place.new ≡ place.old)) }
+    ensures unchanged { OnErr result (S.lines store.new ≡ S.lines store.old) }
 {
     let last = store.len();
-    let start = place.min(last);
-    let end = place.saturating_add(to.saturating_sub(from)).min(last);
+    let start = (*place).min(last);
+    let end = (*place)
+        .saturating_add((*to).saturating_sub(*from))
+        .min(last);
     let count = end - start;
-    let target = from.min(last - count);
+    let target = (*from).min(last - count);
     store.carry(start, end, target)?;
-    Ok(Change::Moved {
-        from: start,
-        to: end,
-        place: target,
-    })
+    *from = start;
+    *to = end;
+    *place = target;
+    Ok(())
 }
 
 /// Takes the flag of each line that has it.

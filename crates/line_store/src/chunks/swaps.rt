@@ -66,6 +66,10 @@ impl ChunkLines {
         if k == 0 || k >= self.chunks.len() {
             return;
         }
+        // One without lines after a chunk stays there, and no line is moved for it.
+        if self.chunks[k].len() == 0 {
+            return;
+        }
         if self.chunks[k - 1].len() + self.chunks[k].len() > FULL {
             return;
         }

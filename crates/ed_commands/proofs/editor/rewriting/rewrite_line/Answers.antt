@@ -1,6 +1,7 @@
 -- What is taken back is the line that stood there.
-use Rattle.std.proofs.Common.{◌≡◌, ◌+◌, ◌∙◌, ap, arith, length}
-use Rattle.ed_base.specs.Buffer.{texts}
+use Rattle.std.proofs.Common.{◌≡◌, ◌≤◌, ◌+◌, ◌∙◌, ap, arith, length}
+use Rattle.std.proofs.lemmas.List.{length-map}
+use Rattle.ed_base.specs.Buffer.{Line, texts}
 use Rattle.ed_commands.specs.Earlier.{earlier_of}
 use Rattle.ed_commands.proofs.Blocks.{length-exchanged}
 use Rattle.ed_commands.proofs.Changes.{texts-back}
@@ -15,7 +16,9 @@ returns-clause-kept g c =
     let entered = c.len-entered.result in
     let removed = c.in_ok-removed.removed in
     let counted : length new ≡ entered = omega (arith, c.args.lines.ok.0, c.len-entered.ensures) in
-    c.add.ensures.kept (texts after)
+    let stands : place ≤ length (texts after) =
+    omega (arith, length-map after (λ (l : Line). l.bytes), ap length c.in_ok-removed.ensures.put, length-exchanged place (place + 1) new lines (omega arith) (omega (arith, c.requires.place)), c.requires.place) in
+    c.add.ensures.kept (texts after) stands
     ∙ ap (earlier_of c.reserve.new.self) (texts-back place (place + 1) entered removed new after lines (omega arith) (omega (arith, c.requires.place)) counted c.in_ok-removed.ensures.taken c.in_ok-removed.ensures.put)
     ∙ c.reserve.ensures.unchanged (texts lines)
 

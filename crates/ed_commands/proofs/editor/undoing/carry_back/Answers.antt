@@ -17,13 +17,13 @@ returns-clause-texts g c =
     let end = c.min-end.result in
     let target = c.min-target.result in
     let long : length (texts before) ≡ c.len-last.result = length-map before (λ (l : Line). l.bytes) ∙ sym c.len-last.ensures.value in
-    let later = c.args.place + (c.args.to - c.args.from) in
-    let i : start ≡ min c.args.place (length (texts before)) = omega (arith, long) in
+    let later = c.args.place.now + (c.args.to.now - c.args.from.now) in
+    let i : start ≡ min c.args.place.now (length (texts before)) = omega (arith, long) in
     let j : end ≡ min later (length (texts before)) = omega (arith, long, c.len-last.type_inv, c.saturating_add.ensures, c.saturating_sub.ensures) in
-    let p : target ≡ min c.args.from (length (texts before) - (end - start)) = omega (arith, long) in
+    let p : target ≡ min c.args.from.now (length (texts before) - (end - start)) = omega (arith, long) in
     let order : start ≤ end = omega (arith, i, j) in
     let is = c.in_ok-carry.ensures.carried in
-    ap texts is ∙ texts-carried start end target before ∙ carried-cut c.args.place later c.args.from start end target (texts before) i j order p
+    ap texts is ∙ texts-carried start end target before ∙ carried-cut c.args.place.now later c.args.from.now start end target (texts before) i j order p
 
 pub returns-clause-again : goal.returns-clause-again
 returns-clause-again g c =

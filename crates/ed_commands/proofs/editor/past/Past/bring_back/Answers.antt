@@ -33,8 +33,8 @@ returns-clause-brought g c =
     let changes = c.rewind.new.changes in
     let p : PastValue = record { undone = e.undone; global = e.global; changes = e.changes.items; room = vec_capacity e.changes - vec_len e.changes } in
     subst (λ p. Restores (earlier_of p (texts old)).past c.args.current old new (earlier_of p (texts old)) (earlier_of c.forget.new.self (texts new)) (Some c.min-line.result)) c.self.view_is
-    (restored p c.forget.new.self c.in-Was.held c.args.current c.len-since.result c.min-line.result (vec_capacity changes - vec_len changes) c.of-marks.result changes.items
+    (restored p c.forget.new.self c.in-Was.held c.args.current c.in_ok-since.since c.min-line.result (vec_capacity changes - vec_len changes) c.of-marks.result changes.items
     old (lines c.rewind.new.store) new
-    c.in-Was.is c.self.invariant.1 (omega (arith, c.len-since.ensures, e.changes.ok.0)) c.in_ok-rewind.ensures.texts c.in_ok-rewind.ensures.again c.in_ok-rewind.ensures.earlier
+    c.in-Was.is c.self.invariant.1 c.in_ok-since.ensures.earlier c.in_ok-since.ensures.texts c.in_ok-since.ensures.again
     c.of-marks.ensures.own (c.set_marks.ensures.marked ∙ ap (lettered c.in-Was.held.marks 0) c.take_flags.ensures.taken) (omega (arith, c.len.ensures.value, c.min-line.ensures))
     c.forget.ensures.kept)
