@@ -1,5 +1,5 @@
-/* To be preloaded. With REFUSE="KIND N" the Nth call of that kind, counted from 1, fails: open, stat, read, write, ftruncate, fsync, fchmod,
-   rename, unlink or close. "refused KIND WHERE PLACE" is said then on standard error: WHERE is `input`, `output`, or the number of the opened
+/* To be preloaded. With REFUSE="KIND N" the Nth call of that kind, counted from 1, fails: open, stat, flock, read, write, ftruncate, fsync,
+   fchmod, fchown, link, rename, unlink or close. "refused KIND WHERE PLACE" is said then on standard error: WHERE is `input`, `output`, or the number of the opened
    file, counted from 1 with those that couldn't be opened; PLACE is how many bytes lie before the place in it, which is that of the call, or
    where the last write ended. With UNCUT set each ftruncate fails too, and nothing is said of it. With BYTES="KIND.." each read, write or both
    take one byte at most. Calls on standard error are never refused. */
@@ -10,6 +10,7 @@
 #include <stdio.h>
 #include <stdlib.h>
 #include <string.h>
+#include <sys/file.h>
 #include <sys/stat.h>
 #include <sys/syscall.h>
 #include <unistd.h>
@@ -72,10 +73,20 @@ int statx(int fd, const char *restrict path, int flags, unsigned wanted, struct 
     return syscall(SYS_statx, fd, path, flags, wanted, status);
 }
 
+int flock(int fd, int how) {
+    return is_refused("flock", fd, 0, ENOLCK) ? -1 : syscall(SYS_flock, fd, how);
+}
+
 ssize_t read(int fd, void *room, size_t size) {
     if (is_refused("read", fd, 0, EIO))
         return -1;
     return syscall(SYS_read, fd, room, taken_at_once("read", size));
+}
+
+ssize_t pread(int fd, void *room, size_t size, off_t place) {
+    if (is_refused("read", fd, 0, EIO))
+        return -1;
+    return syscall(SYS_pread64, fd, room, taken_at_once("read", size), place);
 }
 
 ssize_t write(int fd, const void *piece, size_t size) {
@@ -110,6 +121,14 @@ int fsync(int fd) {
 
 int fchmod(int fd, mode_t mode) {
     return is_refused("fchmod", fd, 0, EIO) ? -1 : syscall(SYS_fchmod, fd, mode);
+}
+
+int fchown(int fd, uid_t owner, gid_t group) {
+    return is_refused("fchown", fd, 0, EPERM) ? -1 : syscall(SYS_fchown, fd, owner, group);
+}
+
+int link(const char *from, const char *to) {
+    return is_refused("link", -1, 0, EPERM) ? -1 : syscall(SYS_linkat, AT_FDCWD, from, AT_FDCWD, to, 0);
 }
 
 int rename(const char *from, const char *to) {

@@ -60,6 +60,7 @@ EDITS = [
     Edit('vouched for, and run', b'/b/d\n1d\n,p\nw\nq\n', VOUCHED_FOR),
     Edit('vouched for by a line that is entered', b'$a\nx\n.\n/x/p\nw\nq\n', VOUCHED_FOR),
     Edit('replaced whole', b'1d\nw\nw H\nr F\nw H\n,p\nw\nq\n', REPLACED_WHOLE),
+    Edit('replaced whole, but for what stays', b'1d\nw\nu\nw\n1d\nw H\nq\n', REPLACED_WHOLE),
     Edit('a fault after a write that is held back', b'1d\nw\n9p\n', REPLACED_WHOLE),
     Edit('vouched for over files like another', b'/b/p\n2d\nw\nq\n', ('--vouched', '--like', 'G', '-s', 'F'), {'F': ABC, 'G': ABC}),
     Edit('vouched for over files that F is unlike', b'4d\nw\nq\n', ('--vouched', '--like', 'G', '-s', 'F'), {'F': ABC, 'G': ABC + b'd\n'}),

@@ -155,10 +155,6 @@ pub as_goes : (old v : SessionValue) (output : List ℕ) (new : SessionValue) �
     GoesOn old [] output [] new
 as_goes old v output new same x = subst (λ u. GoesOn u [] output [] new) same x
 
-pub as_breaks : (old v : SessionValue) (output : List ℕ) (new : SessionValue) → v ≡ old → BreaksOff v [] output [] new →
-    BreaksOff old [] output [] new
-as_breaks old v output new same x = subst (λ u. BreaksOff u [] output [] new) same x
-
 pub as_awaits : (old v : SessionValue) (r : Request) (new : SessionValue) → v ≡ old → Awaits v r new → Awaits old r new
 as_awaits old v r new same x = subst (λ u. Awaits u r new) same x
 

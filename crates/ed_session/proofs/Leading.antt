@@ -161,8 +161,3 @@ gives_after a b c (ask.Read path) x y =
 gives_after a b c (ask.Write path bytes) x y =
     record { same = goes_on a b c x y.same; waiting = y.waiting; handed_out = y.handed_out; asks = y.asks }
 gives_after a b c (ask.Ended result) x y = record { same = goes_on a b c x y.same; over = y.over; handed_out = y.handed_out; told = y.told }
-
--- a session goes on as it is
-pub goes_nowhere : (v : SessionValue) → GoesOn v [] [] [] v
-goes_nowhere v =
-    record { events = []; same = λ answers. refl; handed_out = append-nil v.pending; answered = refl; stays = λ result over. over }

@@ -2,7 +2,7 @@
 use Rattle.std.proofs.Common.{◌≡◌, ℕ, ◌<◌, ◌≤◌, List, [], ◌∷◌, ◌++◌, true, false, length, sym, refl, ap, ◌∙◌, ◌⊎◌, inl, inr, append_assoc, append-nil, arith}
 use Rattle.std.specs.Prelude.{◌≢◌}
 use Rattle.std.proofs.lemmas.List.{drop-append-le}
-use Rattle.std.proofs.lemmas.List.Elements.{All-append, All-nil}
+use Rattle.std.proofs.lemmas.List.Elements.{All-append}
 use Rattle.std.proofs.Math.Seq.{drop-length}
 use Rattle.std.proofs.lemmas.Bool.{cases_Bool}
 use Rattle.ed_syntax.specs.declared.request.Answer.{Answer}
@@ -28,14 +28,6 @@ added_more old mid new x e f = added_is old new (added old mid ++ x) (f ∙ ap (
 pub log_more : (old mid new x : Log) → mid ≡ old ++ added old mid → new ≡ mid ++ x → new ≡ old ++ added old new
 log_more old mid new x e f = f ∙ ap (λ y. y ++ x) e ∙ append_assoc old (added old mid) x
     ∙ ap (λ y. old ++ y) (sym (added_more old mid new x e f))
-
--- no answer, none that doesn't fit
-pub raises_none : (old new : Log) (before now : ℕ) → new ≡ old → Raises (added old new) before now
-raises_none old new before now e = inl (rw (e, added_none old) (All-nil (λ (entry : Request × Answer). fits entry.0 entry.1 ≡ true)))
-
-raises_rise : (log : Log) (before now after : ℕ) → Raises log before now → now ≤ after → Raises log before after
-raises_rise log before now after (inl fit) h = inl fit
-raises_rise log before now after (inr rise) h = inr (omega arith)
 
 one_fits : (r : Request) (a : Answer) → fits r a ≡ true → AllFit ((r, a) ∷ [])
 one_fits r a h k d below = let z : k ≡ 0 = omega arith in rw z h

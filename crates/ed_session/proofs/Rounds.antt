@@ -1,5 +1,5 @@
 -- How a run is driven on by one round.
-use Rattle.std.proofs.Common.{◌≡◌, ℕ, ◌≤◌, ◌<◌, List, [], ◌∷◌, ◌++◌, true, false, Some, None, Result, Ok, Err, refl, sym, ap, ◌∙◌, subst, ◌⊎◌, inl, inr, append_assoc, append-nil, arith}
+use Rattle.std.proofs.Common.{◌≡◌, ℕ, ◌≤◌, ◌<◌, List, [], ◌∷◌, ◌++◌, true, false, Some, Result, Ok, Err, refl, sym, ap, ◌∙◌, subst, ◌⊎◌, inl, inr, append_assoc, append-nil, arith}
 use Rattle.std.specs.Prelude.{◌≢◌, IfOk, IfSome, OnErr}
 use Rattle.std.proofs.lemmas.List.{map-append}
 use Rattle.std.proofs.lemmas.List.Elements.{All-append, All-nil}
@@ -99,9 +99,6 @@ performs_write u old new path asked bytes heard l1 l2 before now awaits same log
 
 pub starts_at : (path : List ℕ) (old : SessionValue) (a : Answer) (new : SessionValue) → path_of old.phase ≡ Some path → Starts (path_of old.phase) old a new → Answers old (request.Read path) a new
 starts_at path old a new e x = subst (λ p. Starts p old a new) e x
-
-pub starts_empty : (old : SessionValue) (a : Answer) (new : SessionValue) → path_of old.phase ≡ None → Starts (path_of old.phase) old a new → GoesOn old [] [] [] new
-starts_empty old a new e x = subst (λ p. Starts p old a new) e x
 
 -- some output was written
 pub driven_output : (from s t : SessionValue) (log : Log) (bytes : List ℕ) (old mid new : SinkState) → Driven from log (change old mid) s → HandsOut s bytes t → Took (change mid new) bytes

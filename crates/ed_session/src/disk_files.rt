@@ -1,28 +1,31 @@
 //! Files on a disk, whose calls are logged.
 ghost use Rattle.std.specs.Prelude.{◌≡◌, ◌≢◌, ◌≤◌, ◌⊎◌, [], None, length, is_some, IfOk, OnOk};
-ghost use Rattle.std.specs.Io.KnownBytes.{Appends, Consumes};
+ghost use Rattle.std.specs.Io.KnownBytes.{Consumes};
 ghost use Rattle.ed_syntax.specs.declared.request.Answer.TheVariants as answer;
 ghost use Rattle.ed_session.specs.Drives.{ends_refused, is_refusal};
 ghost use Rattle.ed_session.specs.Seen.{log_seen};
 
 use crate::Outside;
-use crate::chunks::{Chunks, ROOM};
-use crate::file_places::OpenedFile;
-use crate::overwriting::overwrite;
+use crate::chunks::ROOM;
+use crate::file_stamp::FileStamp;
+use crate::found_files::FoundFiles;
+use crate::giving::{give_bytes, open_to_write, refusal};
 use crate::seen::{SeenAnswer, SeenBytes, SeenRequest};
 use ed_base::{Bytes, Pieces};
 use ed_syntax::Answer;
 use std::alloc::{AllocError, Global};
 use std::fs::{File, OpenFile, OpenOptions};
 use std::io;
-use std::io::{ErrorKind, Read, Write};
+use std::io::{ErrorKind, Read};
 use std::rt::Files;
 use std::snapshot::Snapshot;
 
 /// An outside whose files are those of the system.
 ///
 /// A file that isn't there is missing. One that can't be read or written is refused, and so is a path that isn't UTF-8 or
-/// holds a zero byte. A write gives the file that is there other bytes and leaves its owner, mode and links.
+/// holds a zero byte. A write gives the file that is there other bytes and leaves its owner, mode and links. A file that others have changed
+/// since this read it first, as far as its size, its time and the numbers of its device and of itself tell, isn't written, nor is one that
+/// another process has locked; while it's written, it is locked.
 ///
 /// Where a file becomes longer, what lies beyond its old end is written and synced first. If that is refused, as on a full disk, it is cut
 /// off again and the file has its old bytes; if the cut is refused too, a part of the new end stays after them, and the first refusal is the
@@ -38,6 +41,7 @@ pub struct DiskFiles<R: Files<File = File> + Drop> {
     failures: usize,
     // Why the call was refused that came last, if it was.
     reason: Option<io::Error>,
+    found: FoundFiles,
     ghost few: { failures ≤ length log.items },
     ghost refused: { is_some reason ≡ ends_refused (log_seen log.items) },
 }
@@ -48,12 +52,28 @@ impl<R: Files<File = File> + Drop> DiskFiles<R> {
         ensures log { log_seen result.log.items ≡ [] }
         ensures count { result.failures ≡ 0 }
     {
+        DiskFiles::with(alloc, files, FoundFiles::new(alloc, false))
+    }
+
+    /// The same, where a file on a disk is left alone, with its times, if it has the bytes already that it is given.
+    pub fn sparing(alloc: Global, files: R) -> Self
+        ensures log { log_seen result.log.items ≡ [] }
+        ensures count { result.failures ≡ 0 }
+    {
+        DiskFiles::with(alloc, files, FoundFiles::new(alloc, true))
+    }
+
+    fn with(alloc: Global, files: R, found: FoundFiles) -> Self
+        ensures log { log_seen result.log.items ≡ [] }
+        ensures count { result.failures ≡ 0 }
+    {
         DiskFiles {
             alloc,
             files,
             log: Vec::new(alloc),
             failures: 0,
             reason: None,
+            found,
         }
     }
 
@@ -63,6 +83,11 @@ impl<R: Files<File = File> + Drop> DiskFiles<R> {
         ensures exact { is_some result ≡ ends_refused (log_seen self.now.log.items) }
     {
         self.reason
+    }
+
+    /// What was found at a path when it was read first: a plain file, or nothing. None if it wasn't read so far, or is no plain file.
+    pub fn found_at(&self, path: &[u8]) -> Option<Option<FileStamp>> {
+        self.found.at(path)
     }
 }
 
@@ -79,10 +104,13 @@ impl<R: Files<File = File> + Drop> Outside for DiskFiles<R> {
     #[tactic(auto, using(crate::proofs::Refusing::reason_kept))]
     fn read(&mut self, path: &[u8]) -> Result<Answer, AllocError> {
         self.log.reserve(1)?;
+        self.found.make_room()?;
+        let name = Bytes::from_slice(self.alloc, path)?;
         let asked = SeenRequest::Read(SeenBytes::of(self.alloc, path)?);
-        let mut reason = None;
-        let answer = read_answer(self.alloc, &self.files, path, &mut reason)?;
+        let (mut reason, mut file) = (None, None);
+        let answer = read_answer(self.alloc, &self.files, path, &mut reason, &mut file)?;
         let seen = SeenAnswer::of(&answer);
+        self.found.note(name, file, &answer);
         self.log.push((asked, seen))?;
         self.reason = reason;
         if matches!(answer, Answer::Refused) {
@@ -96,7 +124,8 @@ impl<R: Files<File = File> + Drop> Outside for DiskFiles<R> {
         self.log.reserve(1)?;
         let asked = SeenRequest::Write(SeenBytes::of(self.alloc, path)?, Snapshot::of(bytes));
         let mut reason = None;
-        let answer = write_answer(self.alloc, &self.files, path, bytes, &mut reason)?;
+        let found = &mut self.found;
+        let answer = write_answer(self.alloc, &self.files, path, bytes, found, &mut reason)?;
         let seen = SeenAnswer::of(&answer);
         self.log.push((asked, seen))?;
         self.reason = reason;
@@ -109,15 +138,16 @@ impl<R: Files<File = File> + Drop> Outside for DiskFiles<R> {
 
 /// Why a path can't be one of the system's.
 fn not_text() -> io::Error {
-    io::Error::new(ErrorKind::InvalidInput, "a name that isn't UTF-8")
+    refusal("a name that isn't UTF-8")
 }
 
-/// What a read of a path is answered, and why it is refused, if it is.
-fn read_answer<R: Files>(
+/// What a read of a path is answered, and why it is refused, if it is, and what a plain file was like before it was read.
+fn read_answer<R: Files<File = File>>(
     alloc: Global,
     files: &R,
     path: &[u8],
     reason: &mut Option<io::Error>,
+    found: &mut Option<FileStamp>,
 ) -> Result<Answer, AllocError>
     requires none { reason.old ≡ None }
     ensures not_done { IfOk result (λ a. a ≢ answer.Done) }
@@ -127,7 +157,7 @@ fn read_answer<R: Files>(
         *reason = Some(not_text());
         return Ok(Answer::Refused);
     };
-    match read_file(alloc, files, path) {
+    match read_file(alloc, files, path, found) {
         Ok(bytes) => Ok(Answer::Bytes(Bytes::from_vec(bytes))),
         Err(error) => match error.kind() {
             ErrorKind::NotFound => Ok(Answer::Missing),
@@ -146,9 +176,18 @@ const PIECE: usize = 1 << 16;
 /// Room for the read that finds the end of a file.
 const END: usize = 64;
 
-fn read_file<R: Files>(alloc: Global, files: &R, path: &str) -> io::Result<Vec<u8>> {
+fn read_file<R: Files<File = File>>(
+    alloc: Global,
+    files: &R,
+    path: &str,
+    found: &mut Option<FileStamp>,
+) -> io::Result<Vec<u8>> {
     let mut file = OpenOptions::new().read(true).open(files, path)?;
-    let size = usize::try_from(file.metadata()?.len()).unwrap_or(0);
+    let told = file.metadata()?;
+    if told.is_file() {
+        *found = Some(FileStamp::of_opened(&file, &told));
+    }
+    let size = usize::try_from(told.len()).unwrap_or(0);
     let mut bytes = read_pieces(alloc, &mut file, size)?;
     // What is left of a file that grew, or whose size isn't told, as that of a pipe.
     file.read_to_end(&mut bytes)?;
@@ -181,23 +220,20 @@ fn write_answer<R: Files<File = File>>(
     files: &R,
     path: &[u8],
     bytes: &Pieces,
+    found: &mut FoundFiles,
     reason: &mut Option<io::Error>,
 ) -> Result<Answer, AllocError>
     requires none { reason.old ≡ None }
     ensures done_or_refused { IfOk result (λ a. (a ≡ answer.Done) ⊎ (a ≡ answer.Refused)) }
     ensures exact { IfOk result (λ a. is_some reason.new ≡ is_refusal a) }
 {
-    let Ok(path) = str::from_utf8(path) else {
+    let Ok(text) = str::from_utf8(path) else {
         *reason = Some(not_text());
         return Ok(Answer::Refused);
     };
     let room = Vec::with_capacity(alloc, bytes.len().min(ROOM))?;
-    match OpenOptions::new()
-        .write(true)
-        .create(true)
-        .open(files, path)
-    {
-        Ok(file) => match give_bytes(file, bytes, room) {
+    match open_to_write(files, text, found.spares()) {
+        Ok(file) => match give_bytes(file, path, bytes, room, found) {
             Ok(()) => Ok(Answer::Done),
             Err(error) => {
                 *reason = Some(error);
@@ -210,27 +246,4 @@ fn write_answer<R: Files<File = File>>(
             Ok(Answer::Refused)
         }
     }
-}
-
-/// Gives an open file just these bytes. They are synced, since a disk that can't take them may say so only then, and closing a file
-/// tells nothing. What isn't a file on a disk, as a pipe or a terminal, is written from the front on: it has no places, and nothing to be
-/// cut off or synced.
-fn give_bytes(mut file: File, bytes: &Pieces, room: Vec<u8>) -> io::Result<()> {
-    let found = file.metadata()?;
-    if found.is_file() {
-        overwrite(&mut OpenedFile::new(file), found.len(), bytes, room)
-    } else {
-        write_pieces(&mut file, bytes, room)
-    }
-}
-
-/// Writes all bytes, short pieces gathered in the capacity of a vector.
-fn write_pieces<W: Write>(writer: &mut W, bytes: &Pieces, room: Vec<u8>) -> io::Result<()>
-    ensures written { OnOk result (Appends (W.contents writer.old) (W.contents writer.new) bytes.now) }
-{
-    let mut chunks = Chunks::new(bytes, room);
-    'chunks: while let Some(chunk) = chunks.next_chunk() {
-        writer.write_all(chunk)?;
-    }
-    Ok(())
 }

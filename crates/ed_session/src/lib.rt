@@ -7,6 +7,9 @@ mod counts;
 mod disk_files;
 mod driving;
 mod file_places;
+mod file_stamp;
+mod found_files;
+mod giving;
 mod kept;
 mod mem_files;
 mod mem_sink;
@@ -21,6 +24,7 @@ mod sink;
 
 pub use disk_files::DiskFiles;
 pub use driving::drive;
+pub use file_stamp::FileStamp;
 pub use mem_files::MemFiles;
 pub use mem_sink::MemSink;
 pub use outside::Outside;

@@ -1,5 +1,5 @@
 //! A text that is written over what a file holds.
-ghost use Rattle.std.specs.Prelude.{◌≡◌, ◌<◌, ◌≤◌, ◌+◌, ◌^◌, false, length, take, IfSome, OnOk, OnErr};
+ghost use Rattle.std.specs.Prelude.{◌≡◌, ◌<◌, ◌≤◌, ◌+◌, ◌^◌, false, length, take, IfSome, IsTrue, OnOk, OnErr};
 ghost use Rattle.ed_session.specs.Overwrites.{Wrote, WroteFront, Becomes, LeftBy};
 
 use crate::chunks::Chunks;
@@ -26,6 +26,44 @@ pub(crate) fn overwrite<F: FilePlaces>(
         Ok(end) if end < bytes.len() => lengthen(file, end, bytes, room),
         _ => shorten(file, bytes, room),
     }
+}
+
+/// Gives a file of this size just these bytes, unless it has them already.
+pub(crate) fn overwrite_changed<F: FilePlaces>(
+    file: &mut F,
+    size: u64,
+    bytes: &Pieces,
+    room: Vec<u8>,
+) -> io::Result<()>
+    requires size { IfSome (F.state file.old).held (λ held. length held ≡ size) }
+    requires not_uncut { (F.state file.old).uncut ≡ false }
+    ensures done { OnOk result (Becomes (F.state file.old).held (F.state file.new).held bytes.now) }
+    ensures refused { OnErr result (LeftBy (F.state file.old) (F.state file.new) bytes.now) }
+{
+    if size != bytes.len() as u64 {
+        return overwrite(file, size, bytes, room);
+    }
+    let mut all = Chunks::new(bytes, room);
+    if has_chunks(file, &mut all) {
+        return Ok(());
+    }
+    overwrite(file, size, bytes, all.into_room())
+}
+
+/// Whether a file begins with the bytes of these chunks.
+fn has_chunks<F: FilePlaces>(file: &mut F, chunks: &mut Chunks) -> bool
+    requires in_range { length chunks.old < 2 ^ 64 }
+    ensures same { IsTrue result → Wrote (F.state file.old) (F.state file.old) 0 chunks.old }
+    ensures unchanged { F.state file.new ≡ F.state file.old }
+{
+    let mut place = 0;
+    'chunks: while let Some(chunk) = chunks.next_chunk() {
+        if !file.has_at(chunk, place) {
+            return false;
+        }
+        place += chunk.len();
+    }
+    true
 }
 
 /// Writes more bytes than the file has: first those beyond its end, then the others.

@@ -4,7 +4,7 @@ use Rattle.std.proofs.lemmas.List.{get_or_default, map-append, take_more}
 use Rattle.std.proofs.lemmas.List.Concat.{flat_map-append}
 use Rattle.std.proofs.lemmas.List.Elements.{All-head, All-tail}
 use Rattle.whole.specs.Deeds.{Deed, GoesOn, NothingPut, discarded_path, entry_of, holds_back, put_path, ready_path, readying_path, run_log, tried_path}
-use Rattle.whole.specs.Insides.{discard_deeds, last_deeds, put_deeds, ready_deeds}
+use Rattle.whole.specs.Insides.{discard_deeds, last_deeds, put_deeds, ready_deeds, settle_deeds}
 use Rattle.whole.specs.declared.outcome.Outcome.{Outcome}
 use Rattle.whole.specs.declared.outcome.Outcome.TheVariants as outcome
 
@@ -48,6 +48,7 @@ held-ready (Deed.Draft path bytes given) h = refl
 held-ready (Deed.Ready path done) h = not-so h
 held-ready (Deed.Put path done) h = refl
 held-ready (Deed.Discard path) h = refl
+held-ready (Deed.Settle path) h = refl
 
 pub held-readying : (deed : Deed) → holds_back deed ≡ true → readying_path deed ≡ []
 held-readying (Deed.Read path given) h = refl
@@ -56,6 +57,7 @@ held-readying (Deed.Draft path bytes given) h = refl
 held-readying (Deed.Ready path done) h = not-so h
 held-readying (Deed.Put path done) h = refl
 held-readying (Deed.Discard path) h = refl
+held-readying (Deed.Settle path) h = refl
 
 pub held-tried : (deed : Deed) → holds_back deed ≡ true → tried_path deed ≡ []
 held-tried (Deed.Read path given) h = refl
@@ -64,6 +66,7 @@ held-tried (Deed.Draft path bytes given) h = refl
 held-tried (Deed.Ready path done) h = refl
 held-tried (Deed.Put path done) h = not-so h
 held-tried (Deed.Discard path) h = refl
+held-tried (Deed.Settle path) h = refl
 
 pub held-put : (deed : Deed) → holds_back deed ≡ true → put_path deed ≡ []
 held-put (Deed.Read path given) h = refl
@@ -72,6 +75,7 @@ held-put (Deed.Draft path bytes given) h = refl
 held-put (Deed.Ready path done) h = refl
 held-put (Deed.Put path done) h = not-so h
 held-put (Deed.Discard path) h = refl
+held-put (Deed.Settle path) h = refl
 
 pub held-discarded : (deed : Deed) → holds_back deed ≡ true → discarded_path deed ≡ []
 held-discarded (Deed.Read path given) h = refl
@@ -80,6 +84,7 @@ held-discarded (Deed.Draft path bytes given) h = refl
 held-discarded (Deed.Ready path done) h = refl
 held-discarded (Deed.Put path done) h = refl
 held-discarded (Deed.Discard path) h = not-so h
+held-discarded (Deed.Settle path) h = refl
 
 -- what calls that make ready leave out
 pub none-ready : {A : Type 0} (f : Deed → List A) → ((p : List ℕ) (done : Bool) → f (Deed.Ready p done) ≡ []) →
@@ -110,23 +115,33 @@ none-discarded f h outcome.Discarded ps = map-none f (λ p. Deed.Discard p) h ps
 none-discarded f h (outcome.Unready k) ps = map-none f (λ p. Deed.Discard p) h ps
 none-discarded f h (outcome.Stopped k) ps = map-none f (λ p. Deed.Discard p) h (drop k ps)
 
+-- what calls that settle leave out
+pub none-settled : {A : Type 0} (f : Deed → List A) → ((p : List ℕ) → f (Deed.Settle p) ≡ []) →
+    (o : Outcome) (ps : List (List ℕ)) →
+    flat_map f (settle_deeds o ps) ≡ []
+none-settled f h outcome.Put ps = map-none f (λ p. Deed.Settle p) h ps
+none-settled f h outcome.Discarded ps = refl
+none-settled f h (outcome.Unready k) ps = refl
+none-settled f h (outcome.Stopped k) ps = map-none f (λ p. Deed.Settle p) h (take k ps)
+
 -- the parts of a run that has ended
 pub of-parts : {A : Type 0} (f : Deed →
-    List A) (deeds : List Deed) (o : Outcome) (ps : List (List ℕ)) (held ready put discarded : List A) →
+    List A) (deeds : List Deed) (o : Outcome) (ps : List (List ℕ)) (held ready put settled discarded : List A) →
     flat_map f deeds ≡ held → flat_map f (ready_deeds o ps) ≡ ready → flat_map f (put_deeds o ps) ≡ put →
-    flat_map f (discard_deeds o ps) ≡ discarded →
-    flat_map f (deeds ++ last_deeds o ps) ≡ held ++ (ready ++ (put ++ discarded))
-of-parts f deeds o ps held ready put discarded a b c d =
+    flat_map f (settle_deeds o ps) ≡ settled → flat_map f (discard_deeds o ps) ≡ discarded →
+    flat_map f (deeds ++ last_deeds o ps) ≡ held ++ (ready ++ (put ++ (settled ++ discarded)))
+of-parts f deeds o ps held ready put settled discarded a b c d e =
     let whole = flat_map-append f deeds (last_deeds o ps) in
-    let rest = flat_map-append f (ready_deeds o ps) (put_deeds o ps ++ discard_deeds o ps) in
-    let last = flat_map-append f (put_deeds o ps) (discard_deeds o ps) in
+    let rest = flat_map-append f (ready_deeds o ps) (put_deeds o ps ++ (settle_deeds o ps ++ discard_deeds o ps)) in
+    let more = flat_map-append f (put_deeds o ps) (settle_deeds o ps ++ discard_deeds o ps) in
+    let last = flat_map-append f (settle_deeds o ps) (discard_deeds o ps) in
     cc
 
 -- the end of a run asks nothing for it
 pub last-asked : (o : Outcome) (ps : List (List ℕ)) → run_log (last_deeds o ps) ≡ []
 last-asked o ps =
-    of-parts entry_of [] o ps [] [] [] [] refl (none-ready entry_of (λ p done. refl) o ps) (none-put entry_of (λ p done. refl) o ps)
-    (none-discarded entry_of (λ p. refl) o ps)
+    of-parts entry_of [] o ps [] [] [] [] [] refl (none-ready entry_of (λ p done. refl) o ps) (none-put entry_of (λ p done. refl) o ps)
+    (none-settled entry_of (λ p. refl) o ps) (none-discarded entry_of (λ p. refl) o ps)
 
 pub same-asked : (deeds : List Deed) (o : Outcome) (ps : List (List ℕ)) → run_log (deeds ++ last_deeds o ps) ≡ run_log deeds
 same-asked deeds o ps =
@@ -168,12 +183,3 @@ pub map-all : (f : List ℕ → Deed) (before log : List Deed) (paths : List (Li
     log ≡ before ++ map f (take i paths) →
     log ≡ before ++ map f paths
 map-all f before log paths i over e = e ∙ ap (λ l. before ++ map f l) (take_all i paths over)
-
--- two parts of a log that were added one after the other, and three
-pub two-parts : (old mid new x y : List Deed) → mid ≡ old ++ x → new ≡ mid ++ y → new ≡ old ++ (x ++ y)
-two-parts old mid new x y e f = f ∙ ap (λ l. l ++ y) e ∙ append_assoc old x y
-
-pub three-parts : (old first mid new x y z : List Deed) → first ≡ old ++ x → mid ≡ first ++ y → new ≡ mid ++ z →
-    new ≡ old ++ (x ++ (y ++ z))
-three-parts old first mid new x y z e f g =
-    two-parts old mid new (x ++ y) z (two-parts old first mid x y e f) g ∙ ap (λ l. old ++ l) (append_assoc x y z)

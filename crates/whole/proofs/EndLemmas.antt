@@ -6,15 +6,15 @@ use Rattle.std.proofs.lemmas.List.Concat.{flat_map-append}
 use Rattle.ed_session.specs.KeptAnswers.{Files}
 use Rattle.ed_session.specs.MemFiles.{file_at}
 use Rattle.rehearsal.specs.Rehearsals.{files_at_end, written}
-use Rattle.whole.specs.Deeds.{Deed, NothingPut, holds_back, discarded_path, discarded_paths, put_path, put_paths, ready_path, readying_path, run_log, tried_path, tried_paths}
+use Rattle.whole.specs.Deeds.{Deed, NothingPut, entry_of, holds_back, discarded_path, discarded_paths, put_path, put_paths, ready_path, readying_path, run_log, settled_path, tried_path, tried_paths}
 use Rattle.whole.specs.Paths.{each_once, is_in, write_paths, written_paths}
 use Rattle.whole.specs.LeftFiles.{LeavesAsRun, OldOrNew, left_files, with_file}
-use Rattle.whole.specs.Endings.{AllDiscarded, AllReadyFirst, EachPutOnce, EndsSo, IsPlace, IsUnreadyAt, StopsAt}
-use Rattle.whole.specs.Insides.{discard_deeds, last_deeds, put_deeds, ready_deeds}
+use Rattle.whole.specs.Endings.{AllDiscarded, AllReadyFirst, EachPutOnce, EndsSo, IsPlace, IsUnreadyAt, SettledLast, StopsAt}
+use Rattle.whole.specs.Insides.{discard_deeds, last_deeds, put_deeds, ready_deeds, settle_deeds}
 use Rattle.whole.specs.declared.outcome.Outcome.{Outcome}
 use Rattle.whole.specs.declared.outcome.Outcome.TheVariants as outcome
 use Rattle.whole.proofs.PathLemmas.{at-true, found-written, in-each_once}
-use Rattle.whole.proofs.DeedLemmas.{held-discarded, held-put, held-ready, held-readying, held-tried, last-asked, map-each, none-discarded, none-held, none-put, none-ready, not-so, of-parts, one-more, same-asked}
+use Rattle.whole.proofs.DeedLemmas.{held-discarded, held-put, held-ready, held-readying, held-tried, last-asked, map-each, none-discarded, none-held, none-put, none-ready, none-settled, not-so, of-parts, one-more, same-asked}
 use Rattle.whole.proofs.FileLemmas.{all-moments, drafts-written, drafts_left, end-files, held-first, ready-first, run-none, run-some, unput-same}
 
 -- the paths that were written, after the end of the run
@@ -31,30 +31,32 @@ tried-of : (deeds : List Deed) (o : Outcome) (ps tried : List (List ℕ)) → No
     flat_map tried_path (put_deeds o ps) ≡ tried →
     tried_paths (deeds ++ last_deeds o ps) ≡ tried
 tried-of deeds o ps tried unput e =
-    of-parts tried_path deeds o ps [] [] tried [] (none-held tried_path held-tried deeds unput) (none-ready tried_path (λ p done. refl) o
-    ps) e
-    (none-discarded tried_path (λ p. refl) o ps) ∙ append-nil tried
+    of-parts tried_path deeds o ps [] [] tried [] [] (none-held tried_path held-tried deeds unput)
+    (none-ready tried_path (λ p done. refl) o ps) e
+    (none-settled tried_path (λ p. refl) o ps) (none-discarded tried_path (λ p. refl) o ps) ∙ append-nil tried
 
 put-of : (deeds : List Deed) (o : Outcome) (ps put : List (List ℕ)) → NothingPut deeds →
     flat_map put_path (put_deeds o ps) ≡ put →
     put_paths (deeds ++ last_deeds o ps) ≡ put
 put-of deeds o ps put unput e =
-    of-parts put_path deeds o ps [] [] put [] (none-held put_path held-put deeds unput) (none-ready put_path (λ p done. refl) o ps) e
-    (none-discarded put_path (λ p. refl) o ps) ∙ append-nil put
+    of-parts put_path deeds o ps [] [] put [] [] (none-held put_path held-put deeds unput) (none-ready put_path (λ p done. refl) o ps) e
+    (none-settled put_path (λ p. refl) o ps) (none-discarded put_path (λ p. refl) o ps) ∙ append-nil put
 
 discarded-of : (deeds : List Deed) (o : Outcome) (ps discarded : List (List ℕ)) → NothingPut deeds →
     flat_map discarded_path (discard_deeds o ps) ≡ discarded → discarded_paths (deeds ++ last_deeds o ps) ≡ discarded
 discarded-of deeds o ps discarded unput e =
-    of-parts discarded_path deeds o ps [] [] [] discarded (none-held discarded_path held-discarded deeds unput)
-    (none-ready discarded_path (λ p done. refl) o ps) (none-put discarded_path (λ p done. refl) o ps) e
+    of-parts discarded_path deeds o ps [] [] [] [] discarded (none-held discarded_path held-discarded deeds unput)
+    (none-ready discarded_path (λ p done. refl) o ps) (none-put discarded_path (λ p done. refl) o ps)
+    (none-settled discarded_path (λ p. refl) o ps) e
 
 ready-of : (f : Deed → List (List ℕ)) (deeds : List Deed) (o : Outcome) (ps ready : List (List ℕ)) →
     ((deed : Deed) → holds_back deed ≡ true → f deed ≡ []) → ((p : List ℕ) (done : Bool) → f (Deed.Put p done) ≡ []) →
-    ((p : List ℕ) → f (Deed.Discard p) ≡ []) → NothingPut deeds → flat_map f (ready_deeds o ps) ≡ ready →
+    ((p : List ℕ) → f (Deed.Settle p) ≡ []) → ((p : List ℕ) → f (Deed.Discard p) ≡ []) → NothingPut deeds →
+    flat_map f (ready_deeds o ps) ≡ ready →
     flat_map f (deeds ++ last_deeds o ps) ≡ ready
-ready-of f deeds o ps ready held put discarded unput e =
-    of-parts f deeds o ps [] ready [] [] (none-held f held deeds unput) e (none-put f put o ps) (none-discarded f discarded o ps)
-    ∙ append-nil ready
+ready-of f deeds o ps ready held put settled discarded unput e =
+    of-parts f deeds o ps [] ready [] [] [] (none-held f held deeds unput) e (none-put f put o ps) (none-settled f settled o ps)
+    (none-discarded f discarded o ps) ∙ append-nil ready
 
 -- the moment when all drafts were ready
 readied : (deeds : List Deed) (o : Outcome) (ps : List (List ℕ)) → NothingPut deeds → ps ≡ written_paths deeds →
@@ -64,13 +66,38 @@ readied deeds o ps unput is e =
     let none_tried = none-held tried_path held-tried deeds unput in
     record {
       before = deeds ++ ready_deeds o ps;
-      after = put_deeds o ps ++ discard_deeds o ps;
-      whole = sym (append_assoc deeds (ready_deeds o ps) (put_deeds o ps ++ discard_deeds o ps));
+      after = put_deeds o ps ++ (settle_deeds o ps ++ discard_deeds o ps);
+      whole = sym (append_assoc deeds (ready_deeds o ps) (put_deeds o ps ++ (settle_deeds o ps ++ discard_deeds o ps)));
       ready = flat_map-append ready_path deeds (ready_deeds o ps) ∙ ap (λ l. l ++ flat_map ready_path (ready_deeds o ps)) none_ready
           ∙ e
           ∙ now-written deeds o ps is;
       unput = flat_map-append tried_path deeds (ready_deeds o ps) ∙ ap (λ l. l ++ flat_map tried_path (ready_deeds o ps)) none_tried
           ∙ none-ready tried_path (λ p done. refl) o ps;
+    }
+
+-- the moment when all was put
+settled : (deeds : List Deed) (o : Outcome) (ps put : List (List ℕ)) → NothingPut deeds →
+    flat_map put_path (put_deeds o ps) ≡ put → flat_map settled_path (settle_deeds o ps) ≡ put →
+    SettledLast (deeds ++ last_deeds o ps)
+settled deeds o ps put unput is e =
+    let all = put-of deeds o ps put unput is in
+    let rest = settle_deeds o ps ++ discard_deeds o ps in
+    let front = ready_deeds o ps ++ put_deeds o ps in
+    let joined : ready_deeds o ps ++ (put_deeds o ps ++ rest) ≡ front ++ rest = sym (append_assoc (ready_deeds o ps) (put_deeds o ps)
+    rest) in
+    let none_held = none-held put_path held-put deeds unput in
+    let none_made = none-ready put_path (λ p done. refl) o ps in
+    let none_gone = none-discarded settled_path (λ p. refl) o ps in
+    record {
+      before = deeds ++ front;
+      after = rest;
+      whole = ap (λ l. deeds ++ l) joined ∙ sym (append_assoc deeds front rest);
+      put = flat_map-append put_path deeds front ∙ ap (λ l. l ++ flat_map put_path front) none_held
+          ∙ flat_map-append put_path (ready_deeds o ps) (put_deeds o ps)
+          ∙ ap (λ l. l ++ flat_map put_path (put_deeds o ps)) none_made ∙ is ∙ sym all;
+      settled = flat_map-append settled_path (settle_deeds o ps) (discard_deeds o ps)
+          ∙ ap (λ l. flat_map settled_path (settle_deeds o ps) ++ l) none_gone
+          ∙ append-nil (flat_map settled_path (settle_deeds o ps)) ∙ e ∙ sym all;
     }
 
 -- a path that was put has what its draft has
@@ -114,30 +141,34 @@ drafted-in deeds ps q bytes is has =
     ] in
     ap (is_in q) is ∙ in-each_once q (write_paths log) ∙ found
 
--- at a path where all drafts were put, by whether it has one
-left-at : (deeds : List Deed) (ps : List (List ℕ)) (files : Files) (q : List ℕ) (o : Option (List ℕ)) →
+-- at a path where all drafts were put, by whether it has one; after that nothing is asked
+left-at : (deeds last : List Deed) (ps : List (List ℕ)) (files : Files) (q : List ℕ) (o : Option (List ℕ)) →
+    run_log last ≡ [] →
     ps ≡ written_paths deeds →
     file_at q (written (run_log deeds)) ≡ o →
-    file_at q (left_files (drafts_left [] deeds) files (map (λ p. Deed.Put p true) ps ++ [])) ≡ file_at q (files_at_end files (run_log
-    deeds))
-left-at deeds ps files q None is none =
+    file_at q (left_files (drafts_left [] deeds) files (map (λ p. Deed.Put p true) ps ++ last))
+    ≡ file_at q (files_at_end files (run_log deeds))
+left-at deeds last ps files q None unasked is none =
     let here : file_at q (drafts_left [] deeds) ≡ None = ap (file_at q) (drafts-written [] deeds) ∙ none in
-    elim (end-files (drafts_left [] deeds) files (map (λ p. Deed.Put p true) ps ++ []) (asks-none ps [] refl) q) [
+    elim (end-files (drafts_left [] deeds) files (map (λ p. Deed.Put p true) ps ++ last) (asks-none ps last unasked) q) [
       | inl e ↦ e ∙ sym (run-none q files (run_log deeds) none)
       | inr w ↦ let some = w.1 in absurd cc
     ]
-left-at deeds ps files q (Some bytes) is has =
+left-at deeds last ps files q (Some bytes) unasked is has =
     let here : file_at q (drafts_left [] deeds) ≡ Some bytes = ap (file_at q) (drafts-written [] deeds) ∙ has in
-    put-some (drafts_left [] deeds) files q bytes ps [] refl here (drafted-in deeds ps q bytes is has)
+    put-some (drafts_left [] deeds) files q bytes ps last unasked here (drafted-in deeds ps q bytes is has)
     ∙ sym (run-some q bytes files (run_log deeds) has)
 
 as-run : (deeds : List Deed) (ps : List (List ℕ)) → NothingPut deeds → ps ≡ written_paths deeds →
     LeavesAsRun (deeds ++ last_deeds outcome.Put ps)
 as-run deeds ps unput is files q =
     let held = held-first [] files deeds (last_deeds outcome.Put ps) unput in
-    let ready = ready-first (drafts_left [] deeds) files ps (map (λ p. Deed.Put p true) ps ++ []) in
+    let last : List Deed = map (λ p. Deed.Settle p) ps ++ [] in
+    let ready = ready-first (drafts_left [] deeds) files ps (map (λ p. Deed.Put p true) ps ++ last) in
+    let unasked : run_log last ≡ [] =
+    flat_map-append entry_of (map (λ p. Deed.Settle p) ps) [] ∙ ap (λ l. l ++ []) (none-settled entry_of (λ p. refl) outcome.Put ps) in
     let same = ap (λ log. file_at q (files_at_end files log)) (same-asked deeds outcome.Put ps) in
-    ap (file_at q) (held ∙ ready) ∙ left-at deeds ps files q (file_at q (written (run_log deeds))) is refl ∙ sym same
+    ap (file_at q) (held ∙ ready) ∙ left-at deeds last ps files q (file_at q (written (run_log deeds))) unasked is refl ∙ sym same
 
 -- at each moment of a run that has ended
 pub ended-moments : (deeds : List Deed) (o : Outcome) (ps : List (List ℕ)) → NothingPut deeds → OldOrNew (deeds ++ last_deeds o ps)
@@ -159,6 +190,8 @@ all-put deeds ps unput is =
       put = put-of deeds outcome.Put ps ps unput (map-each put_path (λ p. Deed.Put p true) (λ p. refl) ps) ∙ now;
       tried_once = tried-of deeds outcome.Put ps ps unput (map-each tried_path (λ p. Deed.Put p true) (λ p. refl) ps) ∙ now;
       kept = discarded-of deeds outcome.Put ps [] unput refl;
+      settled = settled deeds outcome.Put ps ps unput (map-each put_path (λ p. Deed.Put p true) (λ p. refl) ps)
+          (map-each settled_path (λ p. Deed.Settle p) (λ p. refl) ps);
       as_run = as-run deeds ps unput is;
     }
 
@@ -181,14 +214,17 @@ stopped deeds ps k unput is below =
     let some : List Deed = map (λ p. Deed.Put p true) (take k ps) in
     let put_some = map-each put_path (λ p. Deed.Put p true) (λ p. refl) (take k ps) in
     let tried_some = map-each tried_path (λ p. Deed.Put p true) (λ p. refl) (take k ps) in
+    let put_now = one-more put_path some (Deed.Put (get_or ps k []) false) (take k ps) [] put_some refl in
     let tried = one-more tried_path some (Deed.Put (get_or ps k []) false) (take k ps) (get_or ps k [] ∷ []) tried_some refl in
     record {
       ready_first = readied deeds o ps unput is (map-each ready_path (λ p. Deed.Ready p true) (λ p. refl) ps);
-      put = put-of deeds o ps _ unput (one-more put_path some (Deed.Put (get_or ps k []) false) (take k ps) [] put_some refl)
+      put = put-of deeds o ps _ unput put_now
           ∙ append-nil (take k ps) ∙ ap (take k) now;
       tried_once = tried-of deeds o ps _ unput tried ∙ sym (take_more ps k [] below) ∙ ap (take (k + 1)) now;
       discarded = discarded-of deeds o ps (drop k ps) unput (map-each discarded_path (λ p. Deed.Discard p) (λ p. refl) (drop k ps))
           ∙ ap (drop k) now;
+      settled = settled deeds o ps (take k ps) unput (put_now ∙ append-nil (take k ps))
+          (map-each settled_path (λ p. Deed.Settle p) (λ p. refl) (take k ps));
     }
 
 unready : (deeds : List Deed) (ps : List (List ℕ)) (k : ℕ) → NothingPut deeds → ps ≡ written_paths deeds → k < length ps →
@@ -204,9 +240,9 @@ unready deeds ps k unput is below =
     let asked = one-more readying_path some last (take k ps) (get_or ps k [] ∷ []) asked_some refl in
     record {
       discarded = all-gone deeds o ps unput is refl refl;
-      ready = ready-of ready_path deeds o ps _ held-ready (λ p done. refl) (λ p. refl) unput ready ∙ append-nil (take k ps)
+      ready = ready-of ready_path deeds o ps _ held-ready (λ p done. refl) (λ p. refl) (λ p. refl) unput ready ∙ append-nil (take k ps)
           ∙ ap (take k) now;
-      asked_once = ready-of readying_path deeds o ps _ held-readying (λ p done. refl) (λ p. refl) unput asked
+      asked_once = ready-of readying_path deeds o ps _ held-readying (λ p done. refl) (λ p. refl) (λ p. refl) unput asked
           ∙ sym (take_more ps k [] below) ∙ ap (take (k + 1)) now;
     }
 

@@ -22,6 +22,7 @@ unput-same drafts files (Deed.Ready p done ∷ deeds) e = unput-same drafts file
 unput-same drafts files (Deed.Put p true ∷ deeds) e = absurd cc
 unput-same drafts files (Deed.Put p false ∷ deeds) e = unput-same drafts files deeds e
 unput-same drafts files (Deed.Discard p ∷ deeds) e = unput-same drafts files deeds e
+unput-same drafts files (Deed.Settle p ∷ deeds) e = unput-same drafts files deeds e
 
 -- the drafts after calls
 abbrev pub drafts_left : Files → List Deed → Files
@@ -37,6 +38,7 @@ drafts-written drafts (Deed.Draft p bytes given ∷ deeds) = drafts-written ((p,
 drafts-written drafts (Deed.Ready p done ∷ deeds) = drafts-written drafts deeds
 drafts-written drafts (Deed.Put p done ∷ deeds) = drafts-written drafts deeds
 drafts-written drafts (Deed.Discard p ∷ deeds) = drafts-written drafts deeds
+drafts-written drafts (Deed.Settle p ∷ deeds) = drafts-written drafts deeds
 
 -- the files after calls that hold back, and others
 pub held-first : (drafts files : Files) (deeds rest : List Deed) → NothingPut deeds →
@@ -51,6 +53,7 @@ held-first drafts files (Deed.Draft p bytes given ∷ deeds) rest all =
 held-first drafts files (Deed.Ready p done ∷ deeds) rest all = not-so (All-head Holding (Deed.Ready p done) deeds all)
 held-first drafts files (Deed.Put p done ∷ deeds) rest all = not-so (All-head Holding (Deed.Put p done) deeds all)
 held-first drafts files (Deed.Discard p ∷ deeds) rest all = not-so (All-head Holding (Deed.Discard p) deeds all)
+held-first drafts files (Deed.Settle p ∷ deeds) rest all = not-so (All-head Holding (Deed.Settle p) deeds all)
 
 -- at a path there is what was there before, or what its draft has
 abbrev pub OldOrDraft : (drafts files now : Files) → List ℕ → Type 0
@@ -93,6 +96,7 @@ end-moments drafts files (Deed.Put p true ∷ deeds) e (suc n) q =
     old-or-later drafts files mid _ q (put-one drafts files p q (file_at p drafts) refl) (end-moments drafts mid deeds e n q)
 end-moments drafts files (Deed.Put p false ∷ deeds) e (suc n) q = end-moments drafts files deeds e n q
 end-moments drafts files (Deed.Discard p ∷ deeds) e (suc n) q = end-moments drafts files deeds e n q
+end-moments drafts files (Deed.Settle p ∷ deeds) e (suc n) q = end-moments drafts files deeds e n q
 
 pub end-files : (drafts files : Files) (deeds : List Deed) → run_log deeds ≡ [] → (q : List ℕ) →
     OldOrDraft drafts files (left_files drafts files deeds) q
@@ -115,6 +119,7 @@ all-moments drafts files (Deed.Draft p bytes given ∷ deeds) last all e (suc n)
 all-moments drafts files (Deed.Ready p done ∷ deeds) last all e (suc n) q = not-so (All-head Holding (Deed.Ready p done) deeds all)
 all-moments drafts files (Deed.Put p done ∷ deeds) last all e (suc n) q = not-so (All-head Holding (Deed.Put p done) deeds all)
 all-moments drafts files (Deed.Discard p ∷ deeds) last all e (suc n) q = not-so (All-head Holding (Deed.Discard p) deeds all)
+all-moments drafts files (Deed.Settle p ∷ deeds) last all e (suc n) q = not-so (All-head Holding (Deed.Settle p) deeds all)
 
 after-append : (xs files : Files) (asked : Request) → files_after (xs ++ files) asked ≡ files_after xs asked ++ files
 after-append xs files (request.Read p) = refl

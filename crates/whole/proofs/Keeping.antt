@@ -31,20 +31,6 @@ refusals-more : (log : Log) (asked : Request) (given : Answer) →
     refusals (log ++ (asked, given) ∷ []) ≡ refusals log + cond (is_refusal given) 1 0
 refusals-more log asked given = sum_by_push (λ (entry : Request × Answer). cond (is_refusal entry.1) 1 0) log (asked, given)
 
-pub refusals-rise : (old new : Log) (asked : Request) (given : Answer) → new ≡ old ++ (asked, given) ∷ [] →
-    refusals old ≤ refusals new
-refusals-rise old new asked given e =
-    let more : refusals new ≡ refusals old + cond (is_refusal given) 1 0 = ap refusals e ∙ refusals-more old asked given in
-    omega (arith, more)
-
-pub refusals-refused : (old new : Log) (asked : Request) (given : Answer) → new ≡ old ++ (asked, given) ∷ [] →
-    given ≡ answer.Refused →
-    refusals old < refusals new
-refusals-refused old new asked given e refused =
-    let more : refusals new ≡ refusals old + 1 =
-    ap refusals e ∙ refusals-more old asked given ∙ ap (λ a. refusals old + cond (is_refusal a) 1 0) refused in
-    omega (arith, more)
-
 any-more : (n m : ℕ) (r : Bool) → m ≡ n + cond r 1 0 → (nat_lt 0 n || r) ≡ nat_lt 0 m
 any-more n m true e =
     let up : m ≡ n + 1 = e in
@@ -92,7 +78,7 @@ pub stays : (deeds more : List Deed) (room room' : ℕ) (paths paths' : List (Li
     IsWhole deeds room paths refused →
     more ≡ deeds → room ≤ room' → paths' ≡ paths → IsWhole more room' paths' refused
 stays deeds more room room' paths paths' refused w e rises same =
-    let big : 3 * length paths ≤ room' = omega (arith, w.room_for_end, rises) in
+    let big : 4 * length paths ≤ room' = omega (arith, w.room_for_end, rises) in
     rw (e, same) (record {
       unput = w.unput;
       reads = w.reads;
@@ -107,7 +93,7 @@ goes-on : (deeds more : List Deed) (deed : Deed) (room room' : ℕ) (paths paths
     IsWhole deeds room paths refused → more ≡ deeds ++ deed ∷ [] → holds_back deed ≡ true →
     reads_held (write_paths (run_log deeds)) deed ≡ true → entry_of deed ≡ (asked, given) ∷ [] →
     paths' ≡ written_paths more →
-    3 * length paths' ≤ room' → refused' ≡ (refused || is_refusal given) → IsWhole more room' paths' refused'
+    4 * length paths' ≤ room' → refused' ≡ (refused || is_refusal given) → IsWhole more room' paths' refused'
 goes-on deeds more deed room room' paths paths' refused refused' asked given w e holds reads entry is fits r =
     let log : run_log more ≡ run_log deeds ++ (asked, given) ∷ [] = one-entry deeds more deed asked given e entry in
     let count : refusals (run_log more) ≡ refusals (run_log deeds) + cond (is_refusal given) 1 0 =
@@ -135,15 +121,6 @@ known-written : (deeds : List Deed) (room : ℕ) (paths : List (List ℕ)) (refu
     IsWhole deeds room paths refused →
     is_in path paths ≡ is_in path (write_paths (run_log deeds))
 known-written deeds room paths refused path w = ap (is_in path) w.paths_are ∙ in-each_once path (write_paths (run_log deeds))
-
--- a read that is answered, by the call that it makes
-pub read-call : (deeds more : List Deed) (paths : List (List ℕ)) (known : Bool) (name path : List ℕ) (given : Answer) →
-    name ≡ path →
-    known ≡ is_in path paths → paths ≡ written_paths deeds → more ≡ deeds ++ read_of known name given ∷ [] →
-    more ≡ deeds ++ read_of (is_in path (written_paths deeds)) path given ∷ []
-read-call deeds more paths known name path given named tells is e =
-    e ∙ ap (λ p. deeds ++ read_of known p given ∷ []) named
-    ∙ ap (λ b. deeds ++ read_of b path given ∷ []) (tells ∙ ap (is_in path) is)
 
 pub read-logged : (deeds more : List Deed) (known : Bool) (name path : List ℕ) (given : Answer) → name ≡ path →
     more ≡ deeds ++ read_of known name given ∷ [] → run_log more ≡ run_log deeds ++ (request.Read path, given) ∷ []
@@ -185,7 +162,7 @@ write-logged deeds more name path bytes given named e =
 
 pub goes-on-write : (deeds more : List Deed) (room room' : ℕ) (paths paths' : List (List ℕ)) (refused refused' : Bool)
     (name path bytes : List ℕ) (given : Answer) → IsWhole deeds room paths refused → name ≡ path →
-    more ≡ deeds ++ Deed.Draft name bytes given ∷ [] → room + 3 ≤ room' → paths' ≡ more_paths (is_in name paths) paths name →
+    more ≡ deeds ++ Deed.Draft name bytes given ∷ [] → room + 4 ≤ room' → paths' ≡ more_paths (is_in name paths) paths name →
     refused' ≡ (refused || is_refusal given) → IsWhole more room' paths' refused'
 goes-on-write deeds more room room' paths paths' refused refused' name path bytes given w named e rises p r =
     let deed = Deed.Draft path bytes given in

@@ -6,7 +6,8 @@ use Rattle.ed_syntax.specs.declared.request.Request.TheVariants as request
 use Rattle.ed_session.specs.Drives.{Log, is_refusal}
 
 -- One call, with its answer or with whether it was done: the file at a path was read, or the draft beside it; that draft was given
--- these bytes; it was made ready to take the place of the file; it was put there; it was discarded.
+-- these bytes; it was made ready to take the place of the file; it was put there; it was discarded; what was put at the path was settled
+-- in its folder, as far as the system lets that be done.
 pub data Deed : Type 0 where
   Read : (path : List ℕ) → (given : Answer) → Deed
   ReadDraft : (path : List ℕ) → (given : Answer) → Deed
@@ -14,6 +15,7 @@ pub data Deed : Type 0 where
   Ready : (path : List ℕ) → (done : Bool) → Deed
   Put : (path : List ℕ) → (done : Bool) → Deed
   Discard : (path : List ℕ) → Deed
+  Settle : (path : List ℕ) → Deed
 
 -- the request of a run that a call has answered, with its answer, if it is for one
 abbrev pub entry_of : Deed → Log
@@ -23,6 +25,7 @@ entry_of (Deed.Draft path bytes given) = (request.Write path bytes, given) ∷ [
 entry_of (Deed.Ready path done) = []
 entry_of (Deed.Put path done) = []
 entry_of (Deed.Discard path) = []
+entry_of (Deed.Settle path) = []
 
 -- what a run has asked and was answered, the oldest first
 abbrev pub run_log : List Deed → Log
@@ -40,8 +43,9 @@ holds_back (Deed.Draft path bytes given) = true
 holds_back (Deed.Ready path done) = false
 holds_back (Deed.Put path done) = false
 holds_back (Deed.Discard path) = false
+holds_back (Deed.Settle path) = false
 
--- nothing was put, or made ready, or discarded: files and drafts were read, and drafts were given their bytes
+-- nothing was put, or made ready, or discarded, or settled: files and drafts were read, and drafts were given their bytes
 abbrev pub NothingPut : List Deed → Type 0
 NothingPut deeds = All (λ deed. holds_back deed ≡ true) deeds
 
@@ -74,6 +78,11 @@ abbrev pub discarded_path : Deed → List (List ℕ)
 discarded_path (Deed.Discard path) = path ∷ []
 discarded_path other = []
 
+-- the path that a call has settled, if it has
+abbrev pub settled_path : Deed → List (List ℕ)
+settled_path (Deed.Settle path) = path ∷ []
+settled_path other = []
+
 -- the paths whose drafts were made ready, in order
 abbrev pub ready_paths : List Deed → List (List ℕ)
 ready_paths deeds = flat_map ready_path deeds
@@ -93,3 +102,7 @@ put_paths deeds = flat_map put_path deeds
 -- the paths whose drafts were discarded, in order
 abbrev pub discarded_paths : List Deed → List (List ℕ)
 discarded_paths deeds = flat_map discarded_path deeds
+
+-- the paths that were settled, in order
+abbrev pub settled_paths : List Deed → List (List ℕ)
+settled_paths deeds = flat_map settled_path deeds

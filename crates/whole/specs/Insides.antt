@@ -14,13 +14,13 @@ abbrev pub more_paths : (known : Bool) → List (List ℕ) → List ℕ → List
 more_paths true paths path = paths
 more_paths false paths path = paths ++ path ∷ []
 
--- Writes that are held back: the paths that were written, whether a request was refused, and room in the log to end the run, with three
+-- Writes that are held back: the paths that were written, whether a request was refused, and room in the log to end the run, with four
 -- calls for each path.
 pub record IsWhole (deeds : List Deed) (room : ℕ) (paths : List (List ℕ)) (refused : Bool) : Type 0 where
   pub unput : NothingPut deeds
   pub reads : ReadsHeld deeds
   pub paths_are : paths ≡ written_paths deeds
-  pub room_for_end : 3 * length paths ≤ room
+  pub room_for_end : 4 * length paths ≤ room
   pub refused_is : refused ≡ nat_lt 0 (refusals (run_log deeds))
 
 -- these facts have one proof at most
@@ -51,9 +51,17 @@ discard_deeds outcome.Discarded paths = map (λ path. Deed.Discard path) paths
 discard_deeds (outcome.Unready place) paths = map (λ path. Deed.Discard path) paths
 discard_deeds (outcome.Stopped place) paths = map (λ path. Deed.Discard path) (drop place paths)
 
+-- the calls that settle what was put
+abbrev pub settle_deeds : Outcome → List (List ℕ) → List Deed
+settle_deeds outcome.Put paths = map (λ path. Deed.Settle path) paths
+settle_deeds outcome.Discarded paths = []
+settle_deeds (outcome.Unready place) paths = []
+settle_deeds (outcome.Stopped place) paths = map (λ path. Deed.Settle path) (take place paths)
+
 -- the calls that end a run
 abbrev pub last_deeds : Outcome → List (List ℕ) → List Deed
-last_deeds ended paths = ready_deeds ended paths ++ (put_deeds ended paths ++ discard_deeds ended paths)
+last_deeds ended paths =
+    ready_deeds ended paths ++ (put_deeds ended paths ++ (settle_deeds ended paths ++ discard_deeds ended paths))
 
 -- that files are different has one proof at most
 pub AreDifferent-prop : (files : List FileIdentity) → IsProp (AreDifferent files)

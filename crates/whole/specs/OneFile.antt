@@ -2,7 +2,7 @@
 -- folder and by its name in it).
 use Rattle.std.specs.Prelude.{◌≢◌, List, [], ◌∷◌, All, map}
 use Rattle.whole.specs.declared.file_identity.FileIdentity.{FileIdentity}
-use Rattle.whole.specs.declared.plain_files.Beside.{Beside}
+use Rattle.whole.specs.declared.beside.Beside.{Beside}
 
 -- the files that drafts are of, as the system told of them when the drafts were made
 abbrev pub files_of : List Beside → List FileIdentity

@@ -12,6 +12,7 @@ deed_seen (seen.Draft path bytes given) = Deed.Draft path.value bytes.value give
 deed_seen (seen.Ready path done) = Deed.Ready path.value done
 deed_seen (seen.Put path done) = Deed.Put path.value done
 deed_seen (seen.Discard path) = Deed.Discard path.value
+deed_seen (seen.Settle path) = Deed.Settle path.value
 
 -- a log as it was seen
 abbrev pub deeds_seen : List SeenDeed → List Deed

@@ -1,21 +1,23 @@
 //! Files on a disk and the drafts beside them, found by their paths. What the system does, no clause knows.
-ghost use Rattle.std.specs.Prelude.{◌≡◌, ◌≢◌, ◌<◌, ◌⊎◌, ◌∷◌, ◌++◌, [], None, All, not, is_some, vec_len, vec_capacity, IfOk, OnErr, IsFalse};
+ghost use Rattle.std.specs.Prelude.{◌≡◌, ◌≢◌, ◌<◌, ◌⊎◌, ◌∷◌, ◌++◌, [], None, All, true, not, is_some, vec_len, vec_capacity, IfOk, OnErr};
 ghost use Rattle.ed_syntax.specs.declared.request.Answer.TheVariants as answer;
 ghost use Rattle.ed_session.specs.Drives.{is_refusal};
 ghost use Rattle.whole.specs.OneFile.{AreDifferent, files_of};
 ghost use Rattle.whole.specs.Insides.{AreDifferent-prop};
 
-use crate::file_identity::FileIdentity;
-use crate::plain_files::{
-    Beside, file_to_read, file_to_replace, make_draft, make_ready, put, refusal, remove,
-};
+use crate::beside::Beside;
+use crate::file_identity::folder_of;
+use crate::made_drafts::{find, has_draft, is_drafted};
+use crate::plain_files::{refusal, sync_folder};
+use crate::planned::Planned;
 use ed_base::Pieces;
-use ed_session::{DiskFiles, Outside};
+use ed_session::{DiskFiles, FileStamp, Outside};
 use ed_syntax::Answer;
 use std::alloc::{AllocError, Global};
 use std::fs::File;
 use std::io;
 use std::io::ErrorKind;
+use std::path::Path;
 use std::rt::Files;
 
 /// The system's files, and the drafts that were made, which may not be there any more.
@@ -24,6 +26,8 @@ pub(crate) struct Disk<R: Files<File = File> + Copy + Drop> {
     alloc: Global,
     system: R,
     files: DiskFiles<R>,
+    // What is added to the names of files for those of their backups, if they are to have some.
+    suffix: Option<String>,
     drafts: Vec<Beside>,
     // Why the call was refused that came last, if it was.
     reason: Option<io::Error>,
@@ -31,13 +35,14 @@ pub(crate) struct Disk<R: Files<File = File> + Copy + Drop> {
 }
 
 impl<R: Files<File = File> + Copy + Drop> Disk<R> {
-    pub(crate) fn new(alloc: Global, system: R) -> Self
+    pub(crate) fn new(alloc: Global, system: R, suffix: Option<String>) -> Self
         ensures no_reason { result.reason ≡ None }
     {
         Disk {
             alloc,
             system,
             files: DiskFiles::new(alloc, system),
+            suffix,
             drafts: Vec::new(alloc),
             reason: None,
         }
@@ -80,9 +85,27 @@ impl<R: Files<File = File> + Copy + Drop> Disk<R> {
             self.reason = Some(no_draft());
             return Ok(Answer::Refused);
         };
-        let answer = self.files.read(draft.name.as_str().as_bytes())?;
-        self.reason = reason_of(&self.files, &answer);
-        Ok(answer)
+        match draft.read_all(self.alloc) {
+            Ok(bytes) => {
+                self.reason = None;
+                Ok(Answer::Bytes(bytes))
+            }
+            Err(error) => self.refuse(error),
+        }
+    }
+
+    /// Refuses a call for this reason, unless that is a want of memory.
+    fn refuse(&mut self, error: io::Error) -> Result<Answer, AllocError>
+        ensures refused { IfOk result (λ a. a ≡ answer.Refused) }
+        ensures reason { IfOk result (λ a. is_some self.new.reason ≡ true) }
+        ensures unchanged { OnErr result (self.new.reason ≡ self.old.reason) }
+        ensures same_drafts { self.new.drafts ≡ self.old.drafts }
+    {
+        if error.kind() == ErrorKind::OutOfMemory {
+            return Err(AllocError);
+        }
+        self.reason = Some(error);
+        Ok(Answer::Refused)
     }
 
     /// Gives the draft of a path these bytes. Where there was none, it is made; but not if there is no memory to write it.
@@ -92,18 +115,38 @@ impl<R: Files<File = File> + Copy + Drop> Disk<R> {
         ensures unchanged { OnErr result (self.new.reason ≡ self.old.reason) }
     {
         if let Some(draft) = find(self.drafts.as_slice(), path) {
-            let answer = self.files.write(draft.name.as_str().as_bytes(), bytes)?;
-            self.reason = reason_of(&self.files, &answer);
-            return Ok(answer);
+            let filled = draft.fill(self.alloc, bytes);
+            return self.answer(filled);
         }
         self.drafts.reserve(1)?;
-        match draft_of(self.alloc, &self.system, self.drafts.as_slice(), path) {
+        let read = self.files.found_at(path);
+        let suffix = self.suffix.as_deref();
+        match draft_of(
+            self.alloc,
+            &self.system,
+            self.drafts.as_slice(),
+            path,
+            read,
+            suffix,
+        ) {
             Ok(draft) => self.write_first(draft, bytes),
-            Err(error) if error.kind() == ErrorKind::OutOfMemory => Err(AllocError),
-            Err(error) => {
-                self.reason = Some(error);
-                Ok(Answer::Refused)
+            Err(error) => self.refuse(error),
+        }
+    }
+
+    /// Answers a call that was done or refused.
+    fn answer(&mut self, done: io::Result<()>) -> Result<Answer, AllocError>
+        ensures done_or_refused { IfOk result (λ a. (a ≡ answer.Done) ⊎ (a ≡ answer.Refused)) }
+        ensures reason { IfOk result (λ a. is_some self.new.reason ≡ is_refusal a) }
+        ensures unchanged { OnErr result (self.new.reason ≡ self.old.reason) }
+        ensures same_drafts { self.new.drafts ≡ self.old.drafts }
+    {
+        match done {
+            Ok(()) => {
+                self.reason = None;
+                Ok(Answer::Done)
             }
+            Err(error) => self.refuse(error),
         }
     }
 
@@ -116,14 +159,14 @@ impl<R: Files<File = File> + Copy + Drop> Disk<R> {
         ensures unchanged { OnErr result (self.new.reason ≡ self.old.reason) }
         ensures added { IfOk result (λ a. self.new.drafts.items ≡ self.old.drafts.items ++ draft ∷ []) }
     {
-        match self.files.write(draft.name.as_str().as_bytes(), bytes) {
+        let filled = draft.fill(self.alloc, bytes);
+        match self.answer(filled) {
             Ok(answer) => {
-                self.reason = reason_of(&self.files, &answer);
                 self.drafts.push_reserved(draft);
                 Ok(answer)
             }
             Err(AllocError) => {
-                remove(&self.system, &draft);
+                draft.remove(&self.system);
                 Err(AllocError)
             }
         }
@@ -133,7 +176,7 @@ impl<R: Files<File = File> + Copy + Drop> Disk<R> {
         ensures reason { is_some self.new.reason ≡ not result }
     {
         self.reason = match find(self.drafts.as_slice(), path) {
-            Some(draft) => make_ready(&self.system, draft).err(),
+            Some(draft) => draft.make_ready(&self.system).err(),
             None => Some(no_draft()),
         };
         self.reason.is_none()
@@ -143,7 +186,7 @@ impl<R: Files<File = File> + Copy + Drop> Disk<R> {
         ensures reason { is_some self.new.reason ≡ not result }
     {
         self.reason = match find(self.drafts.as_slice(), path) {
-            Some(draft) => put(&self.system, draft).err(),
+            Some(draft) => draft.put(&self.system).err(),
             None => Some(no_draft()),
         };
         self.reason.is_none()
@@ -153,7 +196,26 @@ impl<R: Files<File = File> + Copy + Drop> Disk<R> {
         ensures same_reason { self.new.reason ≡ self.old.reason }
     {
         if let Some(draft) = find(self.drafts.as_slice(), path) {
-            remove(&self.system, draft);
+            draft.remove(&self.system);
+        }
+    }
+
+    /// Syncs the folder of a path that has a draft, unless that was done for one before it.
+    pub(crate) fn settle(&mut self, path: &[u8])
+        ensures same_reason { self.new.reason ≡ self.old.reason }
+    {
+        let Some(this) = find(self.drafts.as_slice(), path) else {
+            return;
+        };
+        let folder = folder_of(Path::new(this.path.as_str()));
+        'drafts: for draft in &self.drafts {
+            if draft.path.as_bytes() == path {
+                sync_folder(&self.system, folder);
+                return;
+            }
+            if folder_of(Path::new(draft.path.as_str())).as_str() == folder.as_str() {
+                return;
+            }
         }
     }
 }
@@ -181,12 +243,14 @@ fn other_name() -> io::Error {
     refusal("another name of a file that was written")
 }
 
-/// Makes an empty draft of a path, unless the file there has a draft by another name.
+/// Makes an empty draft of a path, unless the file there has a draft by another name or isn't as it was read, or has a draft's backup.
 fn draft_of<R: Files<File = File>>(
     alloc: Global,
     system: &R,
     drafts: &[Beside],
     path: &[u8],
+    read: Option<Option<FileStamp>>,
+    suffix: Option<&str>,
 ) -> io::Result<Beside>
     ensures other { IfOk result (λ made. All (λ other. other.file ≢ made.file) drafts.now) }
 {
@@ -194,59 +258,14 @@ fn draft_of<R: Files<File = File>>(
         return Err(refusal("a name that isn't UTF-8"));
     };
     let path = String::from_str(alloc, path)?;
-    let (file, old) = file_to_replace(alloc, system, path.as_str())?;
-    if has_draft(drafts, &file) {
+    let planned = Planned::of(alloc, system, path, suffix)?;
+    if has_draft(drafts, &planned.file) {
         return Err(other_name());
     }
-    let (name, draft) = make_draft(alloc, system, path.as_str(), old.as_ref())?;
-    Ok(Beside {
-        path,
-        name,
-        file,
-        draft,
-    })
-}
-
-/// Whether a path leads to a file that has a draft, or to a draft itself. A link that leads to nothing counts as one that does, if some draft
-/// is of a file that wasn't there.
-fn is_drafted<R: Files>(
-    alloc: Global,
-    system: &R,
-    drafts: &[Beside],
-    path: &[u8],
-) -> io::Result<bool> {
-    if drafts.is_empty() {
-        return Ok(false);
-    }
-    let Ok(path) = str::from_utf8(path) else {
-        return Ok(false);
-    };
-    match file_to_read(alloc, system, path) {
-        Ok(Some(file)) => Ok(has_draft(drafts, &file)),
-        Ok(None) => Ok(drafts.iter().any(|draft| !draft.file.is_there())),
-        Err(error) if error.kind() == ErrorKind::NotFound => Ok(false),
-        Err(error) => Err(error),
-    }
-}
-
-/// Whether a file has a draft, or is one.
-fn has_draft(drafts: &[Beside], file: &FileIdentity) -> bool
-    ensures other { IsFalse result → All (λ draft. draft.file ≢ file.now) drafts.now }
-{
-    'drafts: for draft in drafts {
-        if draft.file.is(file) || draft.draft.is(file) {
-            return true;
+    if let Some(backup) = &planned.backup {
+        if has_draft(drafts, &backup.file) {
+            return Err(refusal("its backup is a file that was written"));
         }
     }
-    false
-}
-
-/// The draft of a path, if one was made.
-fn find<'a>(drafts: &'a [Beside], path: &[u8]) -> Option<&'a Beside> {
-    'drafts: for draft in drafts {
-        if draft.path.as_bytes() == path {
-            return Some(draft);
-        }
-    }
-    None
+    Beside::make(alloc, system, planned, read)
 }

@@ -18,11 +18,14 @@ use std::snapshot::Snapshot;
 
 /// The system's files, and drafts beside them.
 ///
-/// The draft of `dir/NAME` is the new file `dir/.NAME.edv-N`, with the first number N at which there is none. A path can be replaced where
-/// there is a plain file with one link that can be written, or nothing; a symbolic link is no plain file. A draft has the owner of the file; it
-/// is synced, and gets the mode of the file, when it is made ready. Another name of a file that has a draft, and the name of a draft itself,
-/// are refused, to be read and to be written. One whose bytes were refused may have some of them. A call that finds no memory
-/// has made no draft and changed no file.
+/// The draft of `dir/NAME` is the new file `dir/.NAME.edv-N`, with the first number N at which there is none; of a long NAME it has the front.
+/// It is locked as long as the run lasts: one that is there and isn't locked is of a run that is over, and is removed by the next that makes
+/// a draft of that path. A path can be replaced where there is a plain file with one link that can be written, or nothing; a symbolic link is
+/// no plain file. The file is locked too, as long as the run lasts, and one that another process has locked is refused. A draft has the owner
+/// of the file; it is synced, and gets the mode of the file, when it is made ready. Where that finds the file changed since it was read, or
+/// since the draft was made, it's refused; so is the draft to be put. A file that has the bytes of its draft already is left alone. Another
+/// name of a file that has a draft, and the name of a draft itself, are refused, to be read and to be written. One whose bytes were refused
+/// may have some of them. A call that finds no memory has made no draft and changed no file.
 #[derive(Drop)]
 pub struct DiskDrafts<R: Files<File = File> + Copy + Drop> {
     disk: Disk<R>,
@@ -36,7 +39,18 @@ impl<R: Files<File = File> + Copy + Drop> DiskDrafts<R> {
         ensures log { deeds_seen result.log.deeds.items ≡ [] }
     {
         DiskDrafts {
-            disk: Disk::new(alloc, system),
+            disk: Disk::new(alloc, system, None),
+            log: DeedLog::new(alloc),
+        }
+    }
+
+    /// The same, where each file that is replaced stays under its name with this suffix, which isn't empty and has no slash, in place of what
+    /// has that name. The name of a file that was written, or was to be its backup, is refused.
+    pub fn with_backups(alloc: Global, system: R, suffix: String) -> Self
+        ensures log { deeds_seen result.log.deeds.items ≡ [] }
+    {
+        DiskDrafts {
+            disk: Disk::new(alloc, system, Some(suffix)),
             log: DeedLog::new(alloc),
         }
     }
@@ -78,7 +92,7 @@ impl<R: Files<File = File> + Copy + Drop> Drafting for DiskDrafts<R> {
     }
 
     fn draft(&mut self, path: &Bytes, bytes: &Pieces) -> Result<Answer, AllocError> {
-        let promised = self.log.make_room(3)?;
+        let promised = self.log.make_room(4)?;
         let answer = self.disk.draft(path.as_slice(), bytes)?;
         let deed = SeenDeed::Draft(
             Snapshot::of(path),
@@ -106,5 +120,10 @@ impl<R: Files<File = File> + Copy + Drop> Drafting for DiskDrafts<R> {
     fn discard(&mut self, path: &Bytes) {
         self.disk.discard(path.as_slice());
         self.log.keep_promise(SeenDeed::Discard(Snapshot::of(path)));
+    }
+
+    fn settle(&mut self, path: &Bytes) {
+        self.disk.settle(path.as_slice());
+        self.log.keep_promise(SeenDeed::Settle(Snapshot::of(path)));
     }
 }

@@ -14,7 +14,7 @@ pub trait Drafting {
     /// What was asked and answered, the oldest first.
     ghost log: { Self → List Deed };
 
-    /// How many calls of `ready`, `put` and `discard` the log has room for.
+    /// How many calls of `ready`, `put`, `discard` and `settle` the log has room for.
     ghost room: { Self → ℕ };
 
     /// The bytes of the file at a path, or that there is none, or that it can't be read.
@@ -37,7 +37,7 @@ pub trait Drafting {
         ensures logged { IfOk result (λ a. log self.new ≡ log self.old ++ Deed.Draft path.now bytes.now a ∷ []) }
         ensures unchanged { OnErr result (log self.new ≡ log self.old) }
         ensures keeps_room { room self.old ≤ room self.new }
-        ensures makes_room { OnOk result (room self.old + 3 ≤ room self.new) }
+        ensures makes_room { OnOk result (room self.old + 4 ≤ room self.new) }
         ensures done_or_refused { IfOk result (λ a. (a ≡ answer.Done) ⊎ (a ≡ answer.Refused)) };
 
     /// Makes the draft of a path such that it can take the place of the file: all its bytes are there to stay, and its mode and owner are
@@ -57,5 +57,11 @@ pub trait Drafting {
     fn discard(&mut self, path: &Bytes)
         requires has_room { 0 < room self.old }
         ensures logged { log self.new ≡ log self.old ++ Deed.Discard path.now ∷ [] }
+        ensures takes_room { room self.old ≤ room self.new + 1 };
+
+    /// Sees to it, as far as the system lets that be done, that what was put at a path is there to stay.
+    fn settle(&mut self, path: &Bytes)
+        requires has_room { 0 < room self.old }
+        ensures logged { log self.new ≡ log self.old ++ Deed.Settle path.now ∷ [] }
         ensures takes_room { room self.old ≤ room self.new + 1 };
 }

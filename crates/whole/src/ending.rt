@@ -17,6 +17,17 @@ fn discard_all<D: Drafting>(drafts: &mut D, paths: &[Bytes])
     }
 }
 
+/// Settles what was put at these paths.
+fn settle_all<D: Drafting>(drafts: &mut D, paths: &[Bytes])
+    requires room { length paths.now ≤ D.room drafts.old }
+    ensures log { D.log drafts.new ≡ D.log drafts.old ++ map (λ path. Deed.Settle path) paths.now }
+    ensures room { D.room drafts.old ≤ D.room drafts.new + length paths.now }
+{
+    'paths: for path in paths {
+        drafts.settle(path);
+    }
+}
+
 /// Makes the drafts of these paths ready up to the first that can't be, and says how many are.
 fn make_ready<D: Drafting>(drafts: &mut D, paths: &[Bytes]) -> usize
     requires room { length paths.now ≤ D.room drafts.old }
@@ -64,9 +75,10 @@ pub(crate) fn is_well(ended_well: bool, refused: bool) -> bool
     ended_well && !refused
 }
 
-/// Ends a run whose drafts are those of these paths: if it went well, all are made ready, and then each is put; else all are discarded.
+/// Ends a run whose drafts are those of these paths: if it went well, all are made ready, then each is put, and what was put is settled; else
+/// all are discarded.
 pub(crate) fn end<D: Drafting>(drafts: &mut D, paths: &[Bytes], well: bool) -> Outcome
-    requires room { 3 * length paths.now ≤ D.room drafts.old }
+    requires room { 4 * length paths.now ≤ D.room drafts.old }
     ensures log { D.log drafts.new ≡ D.log drafts.old ++ last_deeds result paths.now }
     ensures within { IsPlace result (length paths.now) }
     ensures discarded { well ≡ false → result ≡ Outcome.Discarded }
@@ -83,8 +95,10 @@ pub(crate) fn end<D: Drafting>(drafts: &mut D, paths: &[Bytes], well: bool) -> O
     }
     let put = put_in_order(drafts, paths);
     if put < paths.len() {
+        settle_all(drafts, &paths[..put]);
         discard_all(drafts, &paths[put..]);
         return Outcome::Stopped(put);
     }
+    settle_all(drafts, paths);
     Outcome::Put
 }

@@ -35,11 +35,7 @@ impl FileIdentity {
         path: Path<'_>,
         name: &str,
     ) -> io::Result<FileIdentity> {
-        let folder = match path.parent() {
-            Some(folder) if !folder.as_str().is_empty() => folder,
-            _ => Path::new("."),
-        };
-        let found = fs::metadata(files, folder.as_str())?;
+        let found = fs::metadata(files, folder_of(path).as_str())?;
         Ok(FileIdentity {
             device: found.dev(),
             number: found.ino(),
@@ -62,5 +58,13 @@ impl FileIdentity {
             _ => false,
         };
         self.device == other.device && self.number == other.number && same_name
+    }
+}
+
+/// The folder in which a path is looked for.
+pub(crate) fn folder_of(path: Path<'_>) -> Path<'_> {
+    match path.parent() {
+        Some(folder) if !folder.as_str().is_empty() => folder,
+        _ => Path::new("."),
     }
 }

@@ -122,7 +122,7 @@ impl Drafting for MemDrafts {
     }
 
     fn draft(&mut self, path: &Bytes, bytes: &Pieces) -> Result<Answer, AllocError> {
-        let promised = self.log.make_room(3)?;
+        let promised = self.log.make_room(4)?;
         let name = path.try_copy()?;
         self.left.reserve(1)?;
         let answer = if self.refuses(Stage::Draft, path) {
@@ -162,5 +162,9 @@ impl Drafting for MemDrafts {
     fn discard(&mut self, path: &Bytes) {
         forget(&mut self.left, path.as_slice());
         self.log.keep_promise(SeenDeed::Discard(Snapshot::of(path)));
+    }
+
+    fn settle(&mut self, path: &Bytes) {
+        self.log.keep_promise(SeenDeed::Settle(Snapshot::of(path)));
     }
 }

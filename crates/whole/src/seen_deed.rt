@@ -12,4 +12,5 @@ pub(crate) enum SeenDeed {
     Ready(Snapshot<Bytes>, bool),
     Put(Snapshot<Bytes>, bool),
     Discard(Snapshot<Bytes>),
+    Settle(Snapshot<Bytes>),
 }

@@ -11,7 +11,11 @@ use std::{env, fs};
 use whole::{DiskDrafts, Outcome, Whole};
 
 /// A path in the folder for files that don't last, at which there is nothing.
-fn free_path<R: Abort + AllocGlobal + Env + Files>(rt: &R, alloc: Global, name: &str) -> PathBuf {
+pub(crate) fn free_path<R: Abort + AllocGlobal + Env + Files>(
+    rt: &R,
+    alloc: Global,
+    name: &str,
+) -> PathBuf {
     let folder = env::temp_dir(rt).expect(rt, "a folder");
     let path = folder.join(alloc, name).expect(rt, "memory");
     let _ = fs::remove_file(rt, path.as_str());
@@ -19,12 +23,16 @@ fn free_path<R: Abort + AllocGlobal + Env + Files>(rt: &R, alloc: Global, name: 
 }
 
 /// The name of the first draft beside a path of the same folder.
-fn draft_of<R: Abort + AllocGlobal + Env + Files>(rt: &R, alloc: Global, name: &str) -> PathBuf {
+pub(crate) fn draft_of<R: Abort + AllocGlobal + Env + Files>(
+    rt: &R,
+    alloc: Global,
+    name: &str,
+) -> PathBuf {
     let draft = format!(in alloc; ".{name}.edv-0").expect(rt, "memory");
     free_path(rt, alloc, draft.as_str())
 }
 
-fn is_there(rt: &(impl Abort + Files), path: &PathBuf) -> bool {
+pub(crate) fn is_there(rt: &(impl Abort + Files), path: &PathBuf) -> bool {
     fs::exists(rt, path.as_str()).expect(rt, "a path that can be looked up")
 }
 
@@ -44,8 +52,7 @@ fn a_file_is_replaced_once_the_run_has_ended(rt: HostRuntime) {
     same(&rt, is_there(&rt, &draft), true, "a draft");
     let text = fs::read_to_string(&rt, path.as_str()).expect(&rt, "read");
     same(&rt, text.as_str(), "old\n", "before the end");
-    let end = files.finish(true);
-    same(&rt, end.outcome, Outcome::Put, "the outcome");
+    ends(&rt, files, Outcome::Put);
     let text = fs::read_to_string(&rt, path.as_str()).expect(&rt, "read");
     same(&rt, text.as_str(), "newer\n", "after the end");
     let found = fs::metadata(&rt, path.as_str()).expect(&rt, "there");
@@ -63,8 +70,7 @@ fn a_new_file_is_made_at_the_end_alone(rt: HostRuntime) {
     let mut files = Whole::new(alloc, DiskDrafts::new(alloc, &rt));
     writes(&rt, alloc, &mut files, name, b"new\n", Answer::Done);
     same(&rt, is_there(&rt, &path), false, "before the end");
-    let end = files.finish(true);
-    same(&rt, end.outcome, Outcome::Put, "the outcome");
+    ends(&rt, files, Outcome::Put);
     let text = fs::read_to_string(&rt, path.as_str()).expect(&rt, "read");
     same(&rt, text.as_str(), "new\n", "after the end");
     same(&rt, is_there(&rt, &draft), false, "no draft");
@@ -93,29 +99,39 @@ fn a_path_that_is_no_plain_file_or_has_several_links_is_refused(rt: HostRuntime)
     let other = free_path(&rt, alloc, "whole_tests_other");
     fs::write(&rt, path.as_str(), "old\n").expect(&rt, "written");
     symlink(&rt, path.as_str(), link.as_str()).expect(&rt, "a link");
-    let mut files = Whole::new(alloc, DiskDrafts::new(alloc, &rt));
-    let name = link.as_str().as_bytes();
-    writes(&rt, alloc, &mut files, name, b"new\n", Answer::Refused);
-    same(&rt, files.drafts().reason().is_some(), true, "a reason");
-    let mut files = Whole::new(alloc, DiskDrafts::new(alloc, &rt));
+    refuses(&rt, alloc, link.as_str().as_bytes());
     fs::hard_link(&rt, path.as_str(), other.as_str()).expect(&rt, "a link");
-    let name = path.as_str().as_bytes();
-    writes(&rt, alloc, &mut files, name, b"new\n", Answer::Refused);
-    let end = files.finish(true);
-    same(&rt, end.outcome, Outcome::Discarded, "the outcome");
+    refuses(&rt, alloc, path.as_str().as_bytes());
     for each in [&path, &link, &other] {
         fs::remove_file(&rt, each.as_str()).expect(&rt, "removed");
     }
 }
 
+/// A run can't write the file of this name, and tells why.
+fn refuses<R: Abort + Files<File = File>>(rt: &R, alloc: Global, name: &[u8]) {
+    let mut files = Whole::new(alloc, DiskDrafts::new(alloc, rt));
+    writes(rt, alloc, &mut files, name, b"new\n", Answer::Refused);
+    same(rt, files.drafts().reason().is_some(), true, "a reason");
+    ends(rt, files, Outcome::Discarded);
+}
+
 /// A run over the disk in which the file of this name was written.
-fn written<'a, R>(rt: &'a R, alloc: Global, name: &[u8]) -> Whole<DiskDrafts<&'a R>>
+pub(crate) fn written<'a, R>(rt: &'a R, alloc: Global, name: &[u8]) -> Whole<DiskDrafts<&'a R>>
 where
     R: Abort + Files<File = File>,
 {
     let mut files = Whole::new(alloc, DiskDrafts::new(alloc, rt));
     writes(rt, alloc, &mut files, name, b"new\n", Answer::Done);
     files
+}
+
+/// A run that has ended well ends so. Its files aren't locked any more then.
+pub(crate) fn ends<'a, R>(rt: &'a R, files: Whole<DiskDrafts<&'a R>>, outcome: Outcome)
+where
+    R: Abort + Files<File = File>,
+{
+    let end = files.finish(true);
+    same(rt, end.outcome, outcome, "the outcome");
 }
 
 #[test]
@@ -132,14 +148,12 @@ fn a_file_by_two_names_is_refused(rt: HostRuntime) {
         let mut files = written(&rt, alloc, name);
         writes(&rt, alloc, &mut files, other, b"other\n", Answer::Refused);
         same(&rt, files.drafts().reason().is_some(), true, "a reason");
-        let end = files.finish(true);
-        same(&rt, end.outcome, Outcome::Discarded, "the outcome");
+        ends(&rt, files, Outcome::Discarded);
         for read in [other, link_name] {
             let mut files = written(&rt, alloc, name);
             answers(&rt, &mut files, read, Answer::Refused);
             reads(&rt, alloc, &mut files, name, b"new\n");
-            let end = files.finish(true);
-            same(&rt, end.outcome, Outcome::Discarded, "the outcome");
+            ends(&rt, files, Outcome::Discarded);
         }
         let there = fs::read_to_string(&rt, path.as_str());
         same(&rt, there.as_deref().unwrap_or(""), text, "the file");
@@ -163,8 +177,7 @@ fn other_files_are_read_and_written_after_a_write(rt: HostRuntime) {
     writes(&rt, alloc, &mut files, name, b"newer\n", Answer::Done);
     // A draft is no file of the run.
     answers(&rt, &mut files, draft.as_str().as_bytes(), Answer::Refused);
-    let end = files.finish(true);
-    same(&rt, end.outcome, Outcome::Discarded, "the outcome");
+    ends(&rt, files, Outcome::Discarded);
     let text = fs::read_to_string(&rt, second.as_str()).expect(&rt, "read");
     same(&rt, text.as_str(), "old\n", "the second file");
     fs::remove_file(&rt, second.as_str()).expect(&rt, "removed");

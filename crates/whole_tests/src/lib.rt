@@ -6,4 +6,6 @@ mod asserting;
 #[cfg(test)]
 mod disk;
 #[cfg(test)]
+mod keeping;
+#[cfg(test)]
 mod memory;

@@ -1,11 +1,12 @@
-use Rattle.std.proofs.Common.{sym, subst}
-use Rattle.whole.specs.OneFile.{AreDifferent, files_of}
-use Rattle.whole.proofs.Drafted.{different-more}
+use Rattle.std.proofs.Common.{ap}
+use Rattle.whole.proofs.Drafted.{different-after}
 use Rattle.whole.proofs.disk.Disk.write_first.Goals as goal
 
 pub invariant_of-self : goal.invariant_of-self
 invariant_of-self g c =
+    let old = c.args.self.now in
     record {
-      different = subst (λ drafts. AreDifferent (files_of drafts)) (sym c.push_reserved.ensures.items)
-          (different-more c.args.self.now.drafts.items c.args.draft c.args.self.now.different c.requires.other);
+      different = different-after old.drafts.items c.answer.new.self.drafts.items c.push_reserved.new.self.items c.args.draft
+          old.different c.requires.other
+          (ap (λ drafts. drafts.items) c.answer.ensures.same_drafts) c.push_reserved.ensures.items;
     }

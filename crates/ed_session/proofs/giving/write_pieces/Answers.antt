@@ -1,5 +1,5 @@
 use Rattle.ed_session.proofs.Taken.{up-to-more}
-use Rattle.ed_session.proofs.disk_files.write_pieces.Goals as goal
+use Rattle.ed_session.proofs.giving.write_pieces.Goals as goal
 
 pub chunks-preserved : goal.chunks-preserved
 chunks-preserved g c =
