@@ -1,0 +1,8 @@
+use Rattle.remarks.proofs.TellLemmas.{adds_then, adds_last}
+use Rattle.remarks.proofs.shown.tell_of_patterns.Goals as goal
+
+pub returns-clause-appended : goal.returns-clause-appended
+returns-clause-appended c =
+    adds_last c.tell_of_pattern-4.result c.tell_of_pattern-4.new.found.items
+    (adds_then c.in_ok-tell_of_pattern.ensures.appended
+    (adds_then c.in_ok-tell_of_pattern-2.ensures.appended c.in_ok-tell_of_pattern-3.ensures.appended)) c.tell_of_pattern-4.ensures.appended
