@@ -184,24 +184,28 @@ def case(number_and_seed):
         shutil.rmtree(folder)
 
 
+def bytes_of(script):
+    return script.encode('utf-8', 'surrogateescape')
+
+
 def row_case(row, folder):
     """What is wrong with a row, or None."""
     lines = 0 if row.start in (exact_rows.MISSING, exact_rows.NO_PATH) else row.start
     start = Start(folder, lines, [] if row.start == exact_rows.NO_PATH else ['F'], None if isinstance(row.start, str) else b'line\n' * lines)
     try:
-        certificate, cannot = start.vouched(row.script.encode())
-        status, _ = start.ours(['edit', '-s'], row.script.encode())
+        certificate, cannot = start.vouched(bytes_of(row.script))
+        status, _ = start.ours(['edit', '-s'], bytes_of(row.script))
         told = cannot if certificate is None else final_of(certificate)
         right = row.cannot or (f'{row.lines} {row.lines}', row.writes)
         if told != right:
             raise Wrong(f'{right} is right, and vouch says {told}')
-        if certificate is not None and not start.accepted(certificate, row.script.encode()):
+        if certificate is not None and not start.accepted(certificate, bytes_of(row.script)):
             raise Wrong('the certificate is not accepted')
         if (status != 0) != (row.cannot is not None):
             raise Wrong(f'edit: status {status}')
         return None
     except Wrong as wrong:
-        return f'{row.name}: {row.start}\n{row.script[:1000]}{wrong}\n'
+        return f'{row.name}: {row.start}\n{row.script[:1000]!r}\n{wrong}\n'
 
 
 def main():

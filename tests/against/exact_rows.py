@@ -19,6 +19,7 @@ class Row:
 
 
 ADDRESS, DESTINATION, UNSAVED = 'invalid address', 'invalid destination', 'buffer modified'
+UNFOUND = 'file refused'
 
 
 def fine(name, start, script, lines, writes=''):
@@ -128,6 +129,14 @@ FILES_AND_ENDS = (
     refused('`w` without a path', NO_PATH, 'a\nx\n.\nw\nq\n', 2, 'no current file name'),
     fine('`f` with a path forgets the one before', 1, 'f G\nw\nq\n', 1, '=G'),
     refused('`f` without a path', NO_PATH, 'f\nQ\n', 1, 'no current file name'),
+    fine('`f` with a path that is no UTF-8', 1, 'f \udcff\nw ok\nq\n', 1, '=ok'),
+    fine('`f` with such a path, and with another one', 1, 'f \udcff\nf G\nw\nq\n', 1, '=G'),
+    fine('such a path after a `q`', 1, '1d\nw\nq\nw \udcff\n', 0, '=F'),
+    refused('`w` to such a path', 1, '1p\nw \udcff\n9p\n', 2, UNFOUND),
+    refused('`w` to such a path that is remembered', 1, 'f \udcff\nw\nq\n', 2, UNFOUND),
+    refused('such a path after a fault', 1, '9d\nw \udcff\n', 1, ADDRESS),
+    refused('such a path of `E` after a fault', 1, '9d\nE \udcff\n', 1, ADDRESS),
+    refused('a fault of `w` comes before its path', 1, '9w \udcff\nq\n', 1, ADDRESS),
     fine('a file that is missing', MISSING, '$a\nx\n.\nw\nq\n', 1, '=F'),
     fine('`Q` leaves changes', 2, '1d\nQ\n', 1),
     refused('the end saves nothing', 2, '1d\n', 2, UNSAVED),

@@ -215,8 +215,7 @@ def silent(lines, at, text, new, files):
         else:
             count = count_of_matches(lines, at, files)
             many = count is not None and count > 1
-            said = many or bool(re.search(r'current line (on|back)|wherever the search began', text))
-            said = said or bool(re.search(rf'{ELSE}(?! unless)|replaces nothing is no fault', text))
+            said = many or bool(re.search(rf'{ELSE}(?! unless)|replaces nothing is no fault', text))
     else:
         said = bool(re.search(rf'{ELSE}|the changes are lost|both searches', text))
         said = said or bool(re.search(r'write first \(w\)|has no `\.`|^end the text of|^leave ', text))

@@ -1,5 +1,5 @@
 -- Refusals one after another.
-use Rattle.std.proofs.Common.{◌≡◌, ◌<◌, ◌+◌, ℕ, List, [], ◌∷◌, ◌++◌, length, drop, get_or, IsTrue, inl, refl, sym, subst, arith, ap, map, length-append}
+use Rattle.std.proofs.Common.{◌≡◌, ◌<◌, ◌+◌, ℕ, List, [], ◌∷◌, ◌++◌, length, drop, get_or, Option, None, refl, sym, subst, arith, ap, map, length-append}
 use Rattle.std.specs.List.{All, Any}
 use Rattle.std.proofs.lemmas.List.Elements.{All-head, All-same}
 use Rattle.analyser.specs.declared.analysis.Start.{Start}
@@ -12,7 +12,8 @@ use Rattle.ed_syntax.specs.reading.Reading.{script_of}
 use Rattle.cert_check.specs.declared.checker.verdict.Place.{Place}
 use Rattle.hints.specs.Passing.{IsAllowed, IsVouched, MoreLinesHelp, Keeps, GetsPastWhole, last_of}
 use Rattle.hints.specs.Passing as passing
-use Rattle.hints.specs.Hints.{IsUnchanged, IsFrom, DoesTheSame, IsMarked, StaysSomewhere, IsTried, AsksForMore, IsStated, IsRefusal, IsMended, none, more, AreRefusals, mended, stopped, cut}
+use Rattle.hints.specs.Allowing.{StaysSuited}
+use Rattle.hints.specs.Hints.{IsUnchanged, IsFrom, IsMarked, StaysSomewhere, IsTried, AsksForMore, IsStated, IsRefusal, IsMended, none, more, AreRefusals, mended, stopped, cut}
 use Rattle.hints.specs.Hints as hints
 
 -- a list that isn't empty is its first element and the others
@@ -21,61 +22,60 @@ front-of [] x lt is = absurd (omega arith)
 front-of {A} (y ∷ ys) x lt is = ap (λ (z : A). z ∷ ys) (sym is)
 
 -- a refusal of what came of the earlier ones stands after them
-at-hand : (script : List ℕ) (start : Start) (told : List Refusal) (now : List ℕ) (opened : Start) (r : Refusal) → IsMended script start told now opened →
-    r.script ≡ now → r.start ≡ opened → IsMended script start told r.script r.start
-at-hand script start told now opened r is-mended same also =
-    subst (λ (s : Start). IsMended script start told r.script s) (sym also) (subst (λ (s : List ℕ). IsMended script start told s opened) (sym same) is-mended)
+at-hand : (file : Option (List ℕ)) (script : List ℕ) (start : Start) (told : List Refusal) (now : List ℕ) (opened : Start) (r : Refusal) → IsMended file script start told now opened →
+    r.script ≡ now → r.start ≡ opened → IsMended file script start told r.script r.start
+at-hand file script start told now opened r is-mended same also =
+    subst (λ (s : Start). IsMended file script start told r.script s) (sym also) (subst (λ (s : List ℕ). IsMended file script start told s opened) (sym same) is-mended)
 
 -- it is the last one where it has no hint
-pub stops : (script : List ℕ) (start : Start) (told all : List Refusal) (now : List ℕ) (opened : Start) (r : Refusal) → IsMended script start told now opened →
-    IsRefusal r → r.script ≡ now → r.start ≡ opened → r.hints.items ≡ [] → all ≡ told ++ r ∷ [] → AreRefusals script start all
-stops script start told all now opened r is-mended is same also hints pushed =
-    subst (λ (rs : List Refusal). AreRefusals script start rs) (sym pushed) (stopped told r (at-hand script start told now opened r is-mended same also) is hints)
+pub stops : (file : Option (List ℕ)) (script : List ℕ) (start : Start) (told all : List Refusal) (now : List ℕ) (opened : Start) (r : Refusal) → IsMended file script start told now opened →
+    IsRefusal file r → r.script ≡ now → r.start ≡ opened → r.hints.items ≡ [] → all ≡ told ++ r ∷ [] → AreRefusals file script start all
+stops file script start told all now opened r is-mended is same also hints pushed =
+    subst (λ (rs : List Refusal). AreRefusals file script start rs) (sym pushed) (stopped told r (at-hand file script start told now opened r is-mended same also) is hints)
 
 -- there is no further one where what came of the earlier ones is vouched for
-pub ends : (script : List ℕ) (start : Start) (told : List Refusal) (now read : List ℕ) (opened : Start) → IsMended script start told now opened → read ≡ now →
-    IsVouched (script_of read) opened → AreRefusals script start told
-ends script start told now read opened is-mended same vouched =
+pub ends : (file : Option (List ℕ)) (script : List ℕ) (start : Start) (told : List Refusal) (now read : List ℕ) (opened : Start) → IsMended file script start told now opened → read ≡ now →
+    IsVouched (script_of read) opened → AreRefusals file script start told
+ends file script start told now read opened is-mended same vouched =
     mended told now opened is-mended (subst (λ (s : List ℕ). IsVouched (script_of s) opened) same vouched)
 
 -- where none came, the script and the start are the first ones
-none-mended : (script : List ℕ) (start : Start) (told : List Refusal) (now : List ℕ) (then : Start) → IsMended script start told now then → told ≡ [] →
+none-mended : (file : Option (List ℕ)) (script : List ℕ) (start : Start) (told : List Refusal) (now : List ℕ) (then : Start) → IsMended file script start told now then → told ≡ [] →
     IsVouched (script_of now) then → IsVouched (script_of script) start
-none-mended script start told now then none over vouched = vouched
-none-mended script start told now then (more before r h hs is-mended is hints) over vouched =
+none-mended file script start told now then none over vouched = vouched
+none-mended file script start told now then (more before r h hs is-mended is hints) over vouched =
     absurd (omega (arith, simp length-append at (ap length over)))
 
 -- so there are none only where the script is vouched for
-pub none-told : (script : List ℕ) (start : Start) (told : List Refusal) → AreRefusals script start told → told ≡ [] → IsVouched (script_of script) start
-none-told script start told (mended all now then is-mended vouched) over = none-mended script start told now then is-mended over vouched
-none-told script start told (stopped before r is-mended is hints) over = absurd (omega (arith, simp length-append at (ap length over)))
-none-told script start told (cut all now then is-mended many) over = absurd (omega (arith, many, ap length over))
+pub none-told : (file : Option (List ℕ)) (script : List ℕ) (start : Start) (told : List Refusal) → AreRefusals file script start told → told ≡ [] → IsVouched (script_of script) start
+none-told file script start told (mended all now then is-mended vouched) over = none-mended file script start told now then is-mended over vouched
+none-told file script start told (stopped before r is-mended is hints) over = absurd (omega (arith, simp length-append at (ap length over)))
+none-told file script start told (cut all now then is-mended many) over = absurd (omega (arith, many, ap length over))
 
 -- or it is mended too, as its first hint says
-pub goes-on : (script : List ℕ) (start : Start) (told all : List Refusal) (now later : List ℕ) (opened bounded : Start) (r : Refusal) (h : Hint) (hs : List Hint) →
-    IsMended script start told now opened → IsRefusal r → r.script ≡ now → r.start ≡ opened → r.hints.items ≡ h ∷ hs → all ≡ told ++ r ∷ [] →
-    later ≡ h.script → bounded ≡ h.start → IsMended script start all later bounded
-goes-on script start told all now later opened bounded r h hs is-mended is same also hints pushed reads starts =
-    subst (λ (s : Start). IsMended script start all later s) (sym starts)
-    (subst (λ (s : List ℕ). IsMended script start all s h.start) (sym reads)
-    (subst (λ (rs : List Refusal). IsMended script start rs h.script h.start) (sym pushed)
-    (more told r h hs (at-hand script start told now opened r is-mended same also) is hints)))
+pub goes-on : (file : Option (List ℕ)) (script : List ℕ) (start : Start) (told all : List Refusal) (now later : List ℕ) (opened bounded : Start) (r : Refusal) (h : Hint) (hs : List Hint) →
+    IsMended file script start told now opened → IsRefusal file r → r.script ≡ now → r.start ≡ opened → r.hints.items ≡ h ∷ hs → all ≡ told ++ r ∷ [] →
+    later ≡ h.script → bounded ≡ h.start → IsMended file script start all later bounded
+goes-on file script start told all now later opened bounded r h hs is-mended is same also hints pushed reads starts =
+    subst (λ (s : Start). IsMended file script start all later s) (sym starts)
+    (subst (λ (s : List ℕ). IsMended file script start all s h.start) (sym reads)
+    (subst (λ (rs : List Refusal). IsMended file script start rs h.script h.start) (sym pushed)
+    (more told r h hs (at-hand file script start told now opened r is-mended same also) is hints)))
 
 -- what a first hint says has bounds that are allowed
-pub stays-allowed : (r : Refusal) (h : Hint) (hs : List Hint) (bounded : Start) → IsRefusal r → r.hints.items ≡ h ∷ hs → bounded ≡ h.start → IsAllowed bounded
-stays-allowed r h hs bounded is hints starts =
+pub stays-allowed : (file : Option (List ℕ)) (r : Refusal) (h : Hint) (hs : List Hint) (bounded : Start) → IsRefusal file r → r.hints.items ≡ h ∷ hs → bounded ≡ h.start → IsAllowed bounded
+stays-allowed file r h hs bounded is hints starts =
     let tried : IsTried r.script r.start r.place h = All-head (IsTried r.script r.start r.place) h hs (All-same (IsTried r.script r.start r.place) _ _ (sym hints) is.tried) in
     subst IsAllowed (sym starts) tried.allowed
 
 -- a hint of a script and a start that were tried, over a start that keeps what another one says
 pub tried-by : (old : List ℕ) (given : Start) (place : Place) (h : Hint) (script : List ℕ) (start : Start) (count : ℕ) → Keeps given start →
     IsMarked old given script start → StaysSomewhere given start → IsAllowed start → GetsPastWhole (script_of script) start (last_of place count) → h.script ≡ script → h.start ≡ start → h.past ≡ count → IsFrom place old script count h.change →
-    (IsTrue h.same → DoesTheSame old script h.change) → IsTried old given place h
-tried-by old given place h script start count kept marked somewhere allowed past reads starts counts is-from same = record {
+    IsTried old given place h
+tried-by old given place h script start count kept marked somewhere allowed past reads starts counts is-from = record {
   from =
       subst (λ (s : List ℕ). IsFrom place old s h.past h.change) (sym reads)
       (subst (λ (n : ℕ). IsFrom place old script n h.change) (sym counts) is-from);
-  same = λ told. subst (λ (s : List ℕ). DoesTheSame old s h.change) (sym reads) (same told);
   kept = subst (λ (s : Start). Keeps given s) (sym starts) kept;
   marked =
       subst (λ (s : Start). IsMarked old given h.script s) (sym starts)
@@ -89,12 +89,13 @@ tried-by old given place h script start count kept marked somewhere allowed past
 }
 
 -- a refusal is one of the script and the start that were given, by whatever names they were analysed
-pub refused-as : (r : Refusal) (script : List ℕ) (start : Start) (read : Script) (opened : Start) → read ≡ script_of script → opened ≡ start →
+pub refused-as : (file : Option (List ℕ)) (r : Refusal) (script : List ℕ) (start : Start) (read : Script) (opened : Start) → read ≡ script_of script → opened ≡ start →
     r.script ≡ script → r.start ≡ start → IsFailure read opened r.place r.why (map note_value r.notes.items) → All (IsTried script start r.place) r.hints.items →
-    (MoreLinesHelp (script_of script) start → Any (AsksForMore script start) r.hints.items) →
-    IsStated script start r.place r.why (map note_value r.notes.items) r.hints.items →
-    IsRefusal r × (r.script ≡ script) × (r.start ≡ start)
-refused-as r script start read opened reads opens same also fails tried asks states =
+    All (λ (h : Hint). StaysSuited file start h.start) r.hints.items →
+    (file ≡ None → MoreLinesHelp (script_of script) start → Any (AsksForMore script start) r.hints.items) →
+    (file ≡ None → IsStated script start r.place r.why (map note_value r.notes.items) r.hints.items) →
+    IsRefusal file r × (r.script ≡ script) × (r.start ≡ start)
+refused-as file r script start read opened reads opens same also fails tried suited asks states =
     let fails : IsFailure (script_of script) start r.place r.why (map note_value r.notes.items) =
     subst (λ (s : Start). IsFailure (script_of script) s r.place r.why (map note_value r.notes.items)) opens
     (subst (λ (s : Script). IsFailure s opened r.place r.why (map note_value r.notes.items)) reads fails) in (
@@ -105,23 +106,24 @@ refused-as r script start read opened reads opens same also fails tried asks sta
         tried =
             subst (λ (s : Start). All (IsTried r.script s r.place) r.hints.items) (sym also)
             (subst (λ (s : List ℕ). All (IsTried s start r.place) r.hints.items) (sym same) tried);
+        suited = subst (λ (s : Start). All (λ (h : Hint). StaysSuited file s h.start) r.hints.items) (sym also) suited;
         asks =
-            subst (λ (s : Start). MoreLinesHelp (script_of r.script) s → Any (AsksForMore r.script s) r.hints.items) (sym also)
-            (subst (λ (s : List ℕ). MoreLinesHelp (script_of s) start → Any (AsksForMore s start) r.hints.items) (sym same) asks);
+            subst (λ (s : Start). file ≡ None → MoreLinesHelp (script_of r.script) s → Any (AsksForMore r.script s) r.hints.items) (sym also)
+            (subst (λ (s : List ℕ). file ≡ None → MoreLinesHelp (script_of s) start → Any (AsksForMore s start) r.hints.items) (sym same) asks);
         states =
-            subst (λ (s : Start). IsStated r.script s r.place r.why (map note_value r.notes.items) r.hints.items) (sym also)
-            (subst (λ (s : List ℕ). IsStated s start r.place r.why (map note_value r.notes.items) r.hints.items) (sym same) states);
+            subst (λ (s : Start). file ≡ None → IsStated r.script s r.place r.why (map note_value r.notes.items) r.hints.items) (sym also)
+            (subst (λ (s : List ℕ). file ≡ None → IsStated s start r.place r.why (map note_value r.notes.items) r.hints.items) (sym same) states);
       },
       same,
       also,
     )
 
 -- before the first refusal
-pub begins : (script : List ℕ) (start : Start) (told : List Refusal) (now : List ℕ) (opened : Start) → told ≡ [] → now ≡ script → opened ≡ start →
-    IsMended script start told now opened
-begins script start told now opened over same also =
-    subst (λ (rs : List Refusal). IsMended script start rs now opened) (sym over)
-    (subst (λ (s : List ℕ). IsMended script start [] s opened) (sym same) (subst (λ (s : Start). IsMended script start [] script s) (sym also) none))
+pub begins : (file : Option (List ℕ)) (script : List ℕ) (start : Start) (told : List Refusal) (now : List ℕ) (opened : Start) → told ≡ [] → now ≡ script → opened ≡ start →
+    IsMended file script start told now opened
+begins file script start told now opened over same also =
+    subst (λ (rs : List Refusal). IsMended file script start rs now opened) (sym over)
+    (subst (λ (s : List ℕ). IsMended file script start [] s opened) (sym same) (subst (λ (s : Start). IsMended file script start [] script s) (sym also) none))
 
 -- and then there are none
 pub begins-count : (told : List Refusal) → told ≡ [] → length told ≡ 0
@@ -135,4 +137,4 @@ goes-on-count told all r n pushed count = subst (λ (rs : List Refusal). length 
 pub tried-vouched : (given : Start) (place : Place) (h : Hint) (script : List ℕ) (start : Start) → Keeps given start →
     IsMarked script given script start → StaysSomewhere given start → IsAllowed start → IsVouched (script_of script) start → h.script ≡ script → h.start ≡ start → IsUnchanged place h.past h.change → IsTried script given place h
 tried-vouched given place h script start kept marked somewhere allowed is reads starts unchanged =
-    tried-by script given place h script start h.past kept marked somewhere allowed (λ inner low. passing.vouched is) reads starts refl (hints.same refl unchanged) (λ told. inl refl)
+    tried-by script given place h script start h.past kept marked somewhere allowed (λ inner low. passing.vouched is) reads starts refl (hints.same refl unchanged)

@@ -108,15 +108,6 @@ enough-all script given min patterns is allowed least vouched = record {
   vouched = vouched;
 }
 
--- whether they are is whether the script is vouched for over the fullest start
-pub fullest-decided : (script read : Script) (given : Given) (min : ℕ) (patterns : List (List ℕ)) (are : Bool) → read ≡ script → min ≡ fullest_min given →
-    patterns ≡ addable read given.max → IsTrue are ↔ IsVouched read (start_with given min (beside given patterns)) → IsTrue are ↔ IsVouched script (fullest script given)
-fullest-decided script read given min patterns are same is all decided =
-    subst (λ (s : Script). IsTrue are ↔ IsVouched s (fullest s given)) same (
-    subst (λ (m : ℕ). IsTrue are ↔ IsVouched read (start_with given m (beside given (addable read given.max)))) is
-    (subst (λ (l : List (List ℕ)). IsTrue are ↔ IsVouched read (start_with given min (beside given l))) all decided)
-    )
-
 -- others that are seen as a slice
 pub enough-seen : (script : Script) (given : Given) (min : ℕ) (added fewer seen : List (List ℕ)) → AreEnough script given min added → seen ≡ fewer →
     All (Contains (addable script given.max)) fewer → IsVouched script (start_with given min (beside given seen)) → AreEnough script given min fewer

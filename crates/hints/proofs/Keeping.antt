@@ -110,7 +110,6 @@ pub tried-for : (script : List ℕ) (start then : Start) (place : Place) (r : Re
     then.max ≡ start.max → then.landmarks ≡ start.landmarks → IfOk r (λ found. IfSome found (IsTried script then place)) → IfOk r (λ found. IfSome found (IsTried script start place))
 tried-for script start then place (Ok (Some h)) kept most same tried = record {
   from = tried.from;
-  same = tried.same;
   kept = keeps-through start then h.start kept tried.kept;
   marked = marked-for script start then h.script h.start same tried.marked;
   somewhere = λ nowhere. same-nowhere start then most same (tried.somewhere nowhere);

@@ -10,5 +10,6 @@ mod Proposed
 mod Stated
 mod ByLandmarks
 mod NoFile
+mod Placed
 mod SoughtRows
 mod Worked

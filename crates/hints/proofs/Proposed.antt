@@ -121,27 +121,3 @@ like-of script read like given min patterns seen start few same is-min is-given 
     (subst (λ (m : ℕ). IsNarrowed given m (stateable read like) start) is-min
     (subst (λ (l : List (List ℕ)). IsNarrowed given min l start) (seen-is ∙ is) narrowed)) in
     subst (λ (s : Script). IsLike s like start) same (record { widest = wide; fits = fits-of read like start few wide left })
-
--- whether there is one is whether the script is vouched for over the fullest start
-pub like-decided : (script read : Script) (like : Like) (given : Given) (min : ℕ) (patterns seen : List (List ℕ)) (are : Bool) → read ≡ script →
-    min ≡ lines_in like → given ≡ given_like read like → patterns ≡ stateable read like → seen ≡ patterns →
-    IsTrue are ↔ IsVouched read (start_with given min (beside given seen)) → IsTrue are ↔ IsVouched script (fullest_like script like)
-like-decided script read like given min patterns seen are same is-min is-given is seen-is decided =
-    subst (λ (s : Script). IsTrue are ↔ IsVouched s (fullest_like s like)) same
-    (subst (λ (g : Given). IsTrue are ↔ IsVouched read (start_with g (lines_in like) (beside g (stateable read like)))) is-given
-    (subst (λ (m : ℕ). IsTrue are ↔ IsVouched read (start_with given m (beside given (stateable read like)))) is-min
-    (subst (λ (l : List (List ℕ)). IsTrue are ↔ IsVouched read (start_with given min (beside given l))) (seen-is ∙ is) decided)))
-
--- the fullest start, by its parts
-pub fullest-is : (script read : Script) (like : Like) (given : Given) (min : ℕ) (patterns seen : List (List ℕ)) → read ≡ script →
-    min ≡ lines_in like → given ≡ given_like read like → patterns ≡ stateable read like → seen ≡ patterns →
-    start_with given min (beside given seen) ≡ fullest_like script like
-fullest-is script read like given min patterns seen same is-min is-given is seen-is =
-    ap (λ (l : List (List ℕ)). start_with given min (beside given l)) (seen-is ∙ is)
-    ∙ ap (λ (m : ℕ). start_with given m (beside given (stateable read like))) is-min
-    ∙ ap (λ (g : Given). start_with g (lines_in like) (beside g (stateable read like))) is-given
-    ∙ ap (λ (s : Script). fullest_like s like) same
-
-pub fullest-allowed : (script : Script) (like : Like) → lines_in like ≤ most_lines → IsAllowed (fullest_like script like)
-fullest-allowed script like few =
-    allowed-in (given_like script like) (lines_in like) (beside (given_like script like) (stateable script like)) few (room-in script like few)

@@ -4,28 +4,11 @@ use Rattle.std.specs.List.{flat_map}
 use Rattle.std.proofs.lemmas.List.{drop_more}
 use Rattle.std.proofs.lemmas.List.Concat.{flat_map-cons}
 use Rattle.ed_syntax.specs.Commands as ed
-use Rattle.ed_syntax.specs.Commands.{Base, Address, Addresses, Without, One, Comma, Semicolon}
+use Rattle.ed_syntax.specs.Commands.{Address, Addresses, Without, One, Comma, Semicolon}
 use Rattle.ed_rules.specs.Texts.{with_texts}
 use Rattle.ed_rules.specs.Matched.{sought_at, sought_by, sought_at_target}
-use Rattle.hints.specs.Sought.{first_of, second_of, search_from, search_at}
+use Rattle.hints.specs.Sought.{first_of, second_of}
 use Rattle.hints.proofs.Keeping.{texts-twice}
-
--- the pattern that a search is given, where it is given one
-abbrev pub given_of : Option (Option (List ℕ)) → List (List ℕ)
-given_of (Some (Some text)) = text ∷ []
-given_of (Some None) = []
-given_of None = []
-
-given-at : (b : Base) → sought_at b ≡ given_of (search_from b)
-given-at (ed.Forward (Some text)) = refl
-given-at (ed.Forward None) = refl
-given-at (ed.Backward (Some text)) = refl
-given-at (ed.Backward None) = refl
-given-at _ = refl
-
-pub given-by : (a : Option Address) → sought_at_target a ≡ given_of (search_at a)
-given-by None = refl
-given-by (Some a) = given-at a.base
 
 -- those of the addresses of a command
 pub given-pair : (a : Addresses) (set : List (List ℕ)) →

@@ -6,7 +6,7 @@ use Rattle.ed_syntax.specs.Commands.{Address, Addresses, One, Comma, Semicolon, 
 use Rattle.ed_rules.specs.declared.state.State.{State}
 use Rattle.cert_check.specs.declared.checker.verdict.Place.{Place}
 use Rattle.cert_check.specs.Certificates.{Note}
-use Rattle.hints.specs.Sought.{searches, looked_for, remembered, unmatched, known_at, to_state, is_shown}
+use Rattle.hints.specs.Sought.{searches, looked_for, remembered, unmatched, known_at, to_state, is_hidden, is_shown}
 use Rattle.hints.proofs.Worked.{Row, row}
 
 abbrev forward : List ℕ → Address
@@ -20,6 +20,7 @@ abbrev delete : Addresses → Command
 delete addresses = record { addresses = addresses; verb = ed.Delete; suffix = None; listed = false }
 
 searches_and_bounds : List Row
+unfolding is_hidden
 searches_and_bounds =
     -- the target of `m` is searched for last, and a line by its number by no search
     row (searches (record { addresses = Semicolon (forward (codes "a")) (Some again); verb = ed.Move (at_base (ed.Backward (Some (codes "b")))); suffix = None; listed = false })
@@ -40,8 +41,11 @@ searches_and_bounds =
     ∷ row ((s t : State) → known_at (record { command = 1; inner = None }) (record { state = s; looped = None } ∷ record { state = t; looped = None } ∷ []) ≡ Some s) (λ s t. refl)  -- first of two commands
     -- another fault than that of a search asks for no pattern
     ∷ row ((script : Script) (place : Place) (notes : List Note) → to_state script place fault.Syntax notes ≡ []) (λ script place notes. refl)  -- syntax asks for none
-    -- a tab is shown, an escape and a newline aren't
+    -- a tab is shown, an escape, a newline and what nobody can see aren't
     ∷ row (is_shown 9 ≡ true) refl  -- tab is shown
     ∷ row (is_shown 27 ≡ false) refl  -- escape is not shown
     ∷ row (is_shown 10 ≡ false) refl  -- newline is not shown
+    ∷ row (is_shown 160 ≡ false) refl  -- no-break space is not shown
+    ∷ row (is_shown 8238 ≡ false) refl  -- mark that turns the order is not shown
+    ∷ row (is_shown 233 ≡ true) refl  -- letter with an accent is shown
     ∷ []

@@ -1,10 +1,8 @@
 -- What a hint promises, and which refusals are told of a script (our own).
-use Rattle.std.specs.Prelude.{◌≡◌, ◌+◌, ◌-◌, ◌<◌, ◌⊎◌, ℕ, List, [], ◌∷◌, ◌++◌, false, ◌||◌, IsTrue, Some, is_some, slice_get, map, length, All, Any}
+use Rattle.std.specs.Prelude.{◌≡◌, ◌+◌, ◌-◌, ◌<◌, ◌⊎◌, ℕ, List, [], ◌∷◌, ◌++◌, false, Option, Some, None, is_some, map, length, All, Any}
 use Rattle.ed_base.specs.declared.fault.Fault.{Fault}
-use Rattle.ed_syntax.specs.Commands.{Step, Script}
+use Rattle.ed_syntax.specs.Commands.{Script}
 use Rattle.ed_syntax.specs.Changed.{BeginAlike, IsChangedAt, IsReadFurther}
-use Rattle.ed_syntax.specs.meaning.SearchedGlobals.{changes, writes, IsGlobalOf}
-use Rattle.ed_syntax.specs.meaning.SearchedPairs.{IsGlobalOfBoth}
 use Rattle.ed_syntax.specs.reading.Reading.{script_of}
 use Rattle.cert_check.specs.declared.checker.verdict.Place.{Place}
 use Rattle.cert_check.specs.Certificates.{Note, note_value}
@@ -16,6 +14,7 @@ use Rattle.hints.specs.declared.refusing.Refusal.{Refusal}
 use Rattle.hints.specs.Passing.{IsAllowed, IsVouched, with_min, MoreLinesHelp, Keeps, GetsPastWhole, last_of}
 use Rattle.hints.specs.Sought.{to_state, stating, StatingHelps}
 use Rattle.hints.specs.Nowhere.{IsNowhere}
+use Rattle.hints.specs.Allowing.{StaysSuited}
 use Rattle.hints.specs.Landmarks.{StatesLandmarks}
 
 -- HOW A HINT'S SCRIPT COMES FROM THE ONE THAT IS REFUSED
@@ -62,21 +61,10 @@ pub data IsFrom (place : Place) (old new : List ℕ) (past : ℕ) (c : Change) :
   further : IsFurther place (script_of old) (script_of new) c → (0 < c.written) ⊎ (length new < length old) → IsFrom place old new past c
   closed : IsClosed place (script_of old) (script_of new) c → IsFrom place old new past c
 
--- WHERE ITS COMMANDS DO THE SAME
-
--- The one command that is written is a global command for one that searches for its line and changes or writes it, or for a search alone and
--- a command after it that changes the line. Where one line matches it does what they did (the law searches_are_globals_of_one_line of ed_syntax).
-pub data AreGlobal (old new : Script) (c : Change) : Type 0 where
-  one : (searching global : Step) → slice_get old.steps c.kept ≡ Some searching → slice_get new.steps c.kept ≡ Some global → c.removed ≡ 1 → c.written ≡ 1 →
-      IsGlobalOf searching global → IsTrue (changes searching.command.verb || writes searching.command.verb) → AreGlobal old new c
-  both : (first second global : Step) → slice_get old.steps c.kept ≡ Some first → slice_get old.steps (c.kept + 1) ≡ Some second →
-      slice_get new.steps c.kept ≡ Some global → c.removed ≡ 2 → c.written ≡ 1 → IsGlobalOfBoth first second global → IsTrue (changes second.command.verb) →
-      AreGlobal old new c
-
--- what a hint's script has in the stead of what it takes away does the same where one line matches: nothing is changed, or the written command
--- is such a global command
-abbrev pub DoesTheSame : (old new : List ℕ) → Change → Type 0
-DoesTheSame old new c = (new ≡ old) ⊎ AreGlobal (script_of old) (script_of new) c
+-- A script reads on where another one can't be read to its end: it has all commands of that one up to there, and more commands, or fewer bytes.
+pub record ReadsOn (old new : List ℕ) : Type 0 where
+  pub further : IsReadFurther (script_of old) (script_of new)
+  pub more : (length (script_of old).steps < length (script_of new).steps) ⊎ (length new < length old)
 
 -- The start of a hint has the landmarks of the one that is refused. Or it states others beside them, each of which is needed, and the script is
 -- the refused one, which is vouched for with them.
@@ -89,12 +77,11 @@ StaysSomewhere given start = IsNowhere start → IsNowhere given
 
 -- A hint on a script over a start was tried: the script as it reads by it, over the start that it names, gets past as many commands from the
 -- place on as the hint tells, the last of them with all of its list. Of none, it gets past those before the place. It comes from the first
--- script by the change that the hint tells, and where it tells so, that does the same. That start keeps the path of the first one and the
+-- script by the change that the hint tells. That start keeps the path of the first one and the
 -- patterns that it states, and asks for no other number of lines than that one allows. It states no other landmarks than that one but those that
 -- are needed, and none of which it is seen that no file of so many lines has them.
 pub record IsTried (script : List ℕ) (start : Start) (place : Place) (h : Hint) : Type 0 where
   pub from : IsFrom place script h.script h.past h.change
-  pub same : IsTrue h.same → DoesTheSame script h.script h.change
   pub kept : Keeps start h.start
   pub marked : IsMarked script start h.script h.start
   pub somewhere : StaysSomewhere start h.start
@@ -121,20 +108,21 @@ IsStated script start place why notes hints =
     let patterns = to_state (script_of script) place why notes in
     StatingHelps (script_of script) start place patterns → Any (States script start patterns) hints
 
--- A refusal is the first need that fails of its script over its start. Its hints were tried: one of them asks for more lines, and one states
--- the patterns to state, where that helps.
-pub record IsRefusal (r : Refusal) : Type 0 where
+-- A refusal is the first need that fails of its script over its start. Its hints were tried. Where a file is at hand that the start allows, the
+-- start of each hint allows it too. Where none is, one of them asks for more lines, and one states the patterns to state, where that helps.
+pub record IsRefusal (file : Option (List ℕ)) (r : Refusal) : Type 0 where
   pub fails : IsFailure (script_of r.script) r.start r.place r.why (map note_value r.notes.items)
   pub tried : All (IsTried r.script r.start r.place) r.hints.items
-  pub asks : MoreLinesHelp (script_of r.script) r.start → Any (AsksForMore r.script r.start) r.hints.items
-  pub states : IsStated r.script r.start r.place r.why (map note_value r.notes.items) r.hints.items
+  pub suited : All (λ h. StaysSuited file r.start h.start) r.hints.items
+  pub asks : file ≡ None → MoreLinesHelp (script_of r.script) r.start → Any (AsksForMore r.script r.start) r.hints.items
+  pub states : file ≡ None → IsStated r.script r.start r.place r.why (map note_value r.notes.items) r.hints.items
 
 -- Refusals that were mended, each as its first hint says, and what script and start came of it. The first is one of this script over
 -- this start, each later one of what the one before it left.
-pub data IsMended (script : List ℕ) (start : Start) : (told : List Refusal) → (now : List ℕ) → (then : Start) → Type 0 where
-  none : IsMended script start [] script start
-  more : (told : List Refusal) (r : Refusal) (h : Hint) (hs : List Hint) → IsMended script start told r.script r.start → IsRefusal r →
-      r.hints.items ≡ h ∷ hs → IsMended script start (told ++ r ∷ []) h.script h.start
+pub data IsMended (file : Option (List ℕ)) (script : List ℕ) (start : Start) : (told : List Refusal) → (now : List ℕ) → (then : Start) → Type 0 where
+  none : IsMended file script start [] script start
+  more : (told : List Refusal) (r : Refusal) (h : Hint) (hs : List Hint) → IsMended file script start told r.script r.start → IsRefusal file r →
+      r.hints.items ≡ h ∷ hs → IsMended file script start (told ++ r ∷ []) h.script h.start
 
 -- at most so many refusals are told of one script
 abbrev pub most_refusals : ℕ
@@ -142,10 +130,10 @@ most_refusals = 10
 
 -- The refusals that are told of a script over a start. They end where what came of them is vouched for, with one that has no hint, or where
 -- they are as many as are told.
-pub data AreRefusals (script : List ℕ) (start : Start) : List Refusal → Type 0 where
-  mended : (told : List Refusal) (now : List ℕ) (then : Start) → IsMended script start told now then → IsVouched (script_of now) then →
-      AreRefusals script start told
-  stopped : (told : List Refusal) (r : Refusal) → IsMended script start told r.script r.start → IsRefusal r → r.hints.items ≡ [] →
-      AreRefusals script start (told ++ r ∷ [])
-  cut : (told : List Refusal) (now : List ℕ) (then : Start) → IsMended script start told now then → length told ≡ most_refusals →
-      AreRefusals script start told
+pub data AreRefusals (file : Option (List ℕ)) (script : List ℕ) (start : Start) : List Refusal → Type 0 where
+  mended : (told : List Refusal) (now : List ℕ) (then : Start) → IsMended file script start told now then → IsVouched (script_of now) then →
+      AreRefusals file script start told
+  stopped : (told : List Refusal) (r : Refusal) → IsMended file script start told r.script r.start → IsRefusal file r → r.hints.items ≡ [] →
+      AreRefusals file script start (told ++ r ∷ [])
+  cut : (told : List Refusal) (now : List ℕ) (then : Start) → IsMended file script start told now then → length told ≡ most_refusals →
+      AreRefusals file script start told

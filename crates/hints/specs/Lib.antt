@@ -5,7 +5,11 @@ pub mod Widest
 pub mod Nowhere
 pub mod Landmarks
 pub mod Like
+pub mod Allowing
 -- what hints promise, over scripts as they are read from bytes (`script_of`)
 pub mod Hints
+-- which words a start has
+pub mod Shown
+pub mod StartWords
 -- what serves clauses inside the crate
 pub mod Narrowing

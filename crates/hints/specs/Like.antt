@@ -1,9 +1,10 @@
 -- The start that is proposed for a script from a file: the file is one that it allows (our own).
-use Rattle.std.specs.Prelude.{ℕ, Bool, true, false, not, ◌&&◌, nat_lt, List, [], ◌∷◌, length, Option, Some, None, ◌≤◌, if◌then◌else◌}
+use Rattle.std.specs.Prelude.{ℕ, pos, Bool, true, false, not, ◌&&◌, ◌||◌, nat_eq, nat_le, List, [], ◌∷◌, length, Option, Some, None, ◌≤◌, if◌then◌else◌}
 use Rattle.std.specs.List.{filter, list_all, list_any}
+use Rattle.std.specs.Ordering.{int_eq}
 use Rattle.ed_base.specs.Lines.{lines_of}
 use Rattle.ed_syntax.specs.Commands as ed
-use Rattle.ed_syntax.specs.Commands.{Base, Address, Command, Step, Script}
+use Rattle.ed_syntax.specs.Commands.{Base, Address, Addresses, Command, Step, Script}
 use Rattle.ed_syntax.specs.meaning.Verbs.{takes}
 use Rattle.ed_syntax.specs.meaning.Values.{matches}
 use Rattle.ed_rules.specs.Exact.{is_target_by_number}
@@ -27,23 +28,53 @@ addresses_of c = first_of c.addresses ∷ second_of c.addresses ∷ (takes c.ver
 abbrev pub takes_none_by_text : Step → Bool
 takes_none_by_text x = list_all is_target_by_number (addresses_of x.command) && not (takes x.command.verb).global
 
--- the number of a line after the first one; 0 and 1 stand for the beginning of whatever file it is
-abbrev pub is_later_number : Base → Bool
-is_later_number (ed.Number n) = nat_lt 1 n
-is_later_number _ = false
+-- the number of a line, from this number on
+abbrev pub is_number_from : (least : ℕ) → Base → Bool
+is_number_from least (ed.Number n) = nat_le least n
+is_number_from least _ = false
 
-abbrev pub names_later_line : Option Address → Bool
-names_later_line None = false
-names_later_line (Some a) = is_later_number a.base
+abbrev pub names_line_from : (least : ℕ) → Option Address → Bool
+names_line_from least None = false
+names_line_from least (Some a) = is_number_from least a.base
 
--- a command names such a line by its number
-abbrev pub takes_by_number : Step → Bool
-takes_by_number x = list_any names_later_line (addresses_of x.command)
+abbrev pub is_one : Base → Bool
+is_one (ed.Number n) = nat_eq n 1
+is_one _ = false
 
--- A script takes lines by their numbers, as `diff -e` writes one: some command does, and none takes a line otherwise. So it is for files with
--- just so many lines.
+abbrev pub is_last : Base → Bool
+is_last ed.Last = true
+is_last _ = false
+
+-- an address is just such a base, without an offset
+abbrev pub is_just : (base : Base → Bool) → Option Address → Bool
+is_just base None = false
+is_just base (Some a) = base a.base && int_eq a.offset (pos 0)
+
+-- `1,$`, which are all lines of whatever file it is
+abbrev pub are_all_lines : Addresses → Bool
+are_all_lines addresses = is_just is_one (first_of addresses) && is_just is_last (second_of addresses)
+
+-- The addresses before a command name a line by its number, of those from this number on. Those of all lines name none.
+abbrev pub are_numbered : (least : ℕ) → Addresses → Bool
+are_numbered least addresses =
+    (names_line_from least (first_of addresses) || names_line_from least (second_of addresses)) && not (are_all_lines addresses)
+
+-- a command names a line by its number, of those from this number on
+abbrev pub takes_by_number : (least : ℕ) → Step → Bool
+takes_by_number least x = are_numbered least x.command.addresses || names_line_from least (takes x.command.verb).target
+
+-- no command of a script takes a line otherwise than by its number, and some command names one, of those from this number on
+abbrev pub names_lines_from : (least : ℕ) → Script → Bool
+names_lines_from least script = list_all takes_none_by_text script.steps && list_any (takes_by_number least) script.steps
+
+-- A script takes lines by their numbers, as `diff -e` writes one: some command names a line by its number, be it line 0 or 1 too, and none takes a
+-- line otherwise. So it is for files with just so many lines.
 abbrev pub is_by_numbers : Script → Bool
-is_by_numbers script = list_all takes_none_by_text script.steps && list_any takes_by_number script.steps
+is_by_numbers script = names_lines_from 0 script
+
+-- The same, and some line is one after the first: where no file is at hand, 0 and 1 stand for the beginning of whatever file it is.
+abbrev pub names_later_lines : Script → Bool
+names_later_lines script = names_lines_from 2 script
 
 -- WHAT IS TAKEN FROM THE FILE
 

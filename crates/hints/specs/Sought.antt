@@ -1,6 +1,6 @@
 -- The patterns that the searches of a command look for and that no line need match, and where it helps to state them (our own).
-use Rattle.std.specs.Prelude.{◌≡◌, ◌≢◌, ◌<◌, ◌-◌, ◌⊎◌, ℕ, Bool, true, false, not, ◌||◌, ◌==◌, List, [], ◌∷◌, length, All, Option, Some, None, slice_get, if◌then◌else◌}
-use Rattle.std.specs.List.{filter, filter_map, flat_map, list_all}
+use Rattle.std.specs.Prelude.{◌≡◌, ◌≢◌, ◌<◌, ◌-◌, ◌⊎◌, ℕ, Bool, true, false, not, ◌&&◌, ◌||◌, ◌==◌, nat_le, List, [], ◌∷◌, length, All, Option, Some, None, slice_get, if◌then◌else◌}
+use Rattle.std.specs.List.{filter, filter_map, flat_map, list_all, list_any}
 use Rattle.std.specs.Option.{unwrap_or}
 use Rattle.std.specs.Char.{is_control}
 use Rattle.std.specs.Str.{IsUtf8, chars}
@@ -17,6 +17,7 @@ use Rattle.cert_check.specs.declared.checker.verdict.Place.{Place}
 use Rattle.cert_check.specs.Certificates.{Looped, Note}
 use Rattle.analyser.specs.declared.analysis.Start.{Start}
 use Rattle.analyser.specs.Following.{stated_of}
+use Rattle.hints.specs.declared.hidden.TheConstants.{HIDDEN}
 use Rattle.hints.specs.Passing.{GetsPast, MoreLinesHelp, most_of}
 
 -- WHAT IS LOOKED FOR
@@ -112,9 +113,13 @@ to_state script place why notes = if is_of_search why then unmatched_by (command
 
 -- WHERE IT HELPS TO STATE THEM
 
--- a character that a line shows: no control character but the tab
+-- a character that nobody can see, or that is taken for another one: it lies in one of these ranges
+unfoldable pub is_hidden : ℕ → Bool
+is_hidden c = list_any (λ range. nat_le range.0 c && nat_le c range.1) HIDDEN
+
+-- a character that a line shows: none that is hidden, and no control character but the tab
 abbrev pub is_shown : ℕ → Bool
-is_shown c = not (is_control c) || c == 9
+is_shown c = not (is_control c || is_hidden c) || c == 9
 
 -- a text that a person can type in one line
 abbrev pub IsTypable : List ℕ → Type 0

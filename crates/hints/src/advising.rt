@@ -8,13 +8,14 @@ ghost use Rattle.hints.specs.Passing.{MoreLinesHelp};
 ghost use Rattle.hints.specs.Sought.{GetsPastAll, StatingHelps};
 ghost use Rattle.hints.specs.Hints.{IsTried, AsksForMore, States, IsStated};
 
-use crate::changing::{change_of, does_the_same, unchanged_at};
+use crate::changing::{change_of, unchanged_at};
 use crate::commands::line_at;
 use crate::drafts::Draft;
 use crate::further::{with_more_lines, with_needed_lines};
-use crate::hint::{Advice, Change, Hint, Remark};
+use crate::hint::{Advice, Change, Hint};
 use crate::marked::with_landmark;
 use crate::nowhere::is_nowhere;
+use crate::numbering::Numbering;
 use crate::passing::gets_past_all;
 use crate::rewritings::drafts_at;
 use crate::sought::{is_of_search, unmatched_at};
@@ -26,12 +27,18 @@ use ed_base::{Bytes, Fault, count_lines};
 use ed_rules::Texts;
 use std::alloc::{AllocError, Global};
 
-/// The line at a place, or the last one at the end; lines count from 1.
-fn number_at(alloc: Global, script: &[u8], place: Place) -> Result<usize, AllocError> {
-    match line_at(alloc, script, place)? {
-        Some(span) => Ok(span.line),
-        None => Ok(count_lines(script)),
-    }
+/// The line at a place, or the last one at the end, by its number in the script that was given; lines count from 1.
+pub(crate) fn number_at(
+    alloc: Global,
+    script: &[u8],
+    place: Place,
+    numbering: &Numbering,
+) -> Result<usize, AllocError> {
+    let line = match line_at(alloc, script, place)? {
+        Some(span) => span.line,
+        None => count_lines(script),
+    };
+    Ok(numbering.line(line))
 }
 
 /// The hint to take a draft, where its script gets past as many commands from a place on as it has to, and is the given one but for commands
@@ -73,7 +80,6 @@ pub(crate) fn past_by(
     let Some(change) = change_of(alloc, script, new.as_slice(), place, past, given)? else {
         return Ok(None);
     };
-    let same = does_the_same(alloc, script, new.as_slice(), change)?;
     Ok(Some(Hint {
         advice,
         line,
@@ -82,7 +88,6 @@ pub(crate) fn past_by(
         start: copy_of(start)?,
         past,
         change,
-        same,
     }))
 }
 
@@ -135,7 +140,6 @@ pub(crate) fn at_least(
         start: with_bounds(start, min, start.max)?,
         past: 1,
         change: unchanged_at(place),
-        same: true,
     }))
 }
 
@@ -180,7 +184,6 @@ fn at_most(
         start: fewer,
         past: 1,
         change: unchanged_at(place),
-        same: true,
     }))
 }
 
@@ -238,6 +241,7 @@ fn or_both(
     line: usize,
     why: Fault,
     notes: &[Note],
+    numbering: &Numbering,
     found: Vec<Hint>,
 ) -> Result<Vec<Hint>, AllocError>
     requires high { IfSome start.now.max (λ most. most ≤ most_lines) }
@@ -251,7 +255,7 @@ fn or_both(
         return Ok(found);
     }
     let mut found = found;
-    let drafts = drafts_at(alloc, script, path_of(start), place, why, notes)?;
+    let drafts = drafts_at(alloc, script, path_of(start), place, why, notes, numbering)?;
     let both = with_needed_lines(alloc, script, start, place, line, drafts)?;
     push_hint(&mut found, script, start, place, both)?;
     Ok(found)
@@ -325,29 +329,24 @@ fn and_stated(
     Ok(found)
 }
 
-/// What to write where a need of a script fails at a place by a fault, before which this is known: the best hint first. Each gets past
-/// as many commands from the place on as it tells. Where the script is vouched for with more lines, one hint asks for them. Where searches there fail for want of a line that
-/// matches, and it helps to state their patterns, one hint states them.
-pub fn hints(
+/// All hints on a need that fails: those that keep the script as it is come first.
+pub(crate) fn all_hints(
     alloc: Global,
     script: &[u8],
     start: &Start,
     place: Place,
     why: Fault,
     notes: &[Note],
+    numbering: &Numbering,
 ) -> Result<Vec<Hint>, AllocError>
     requires ordered { IsAtMost start.now.min start.now.max }
     requires low { start.now.min ≤ most_lines }
     requires high { IfSome start.now.max (λ most. most ≤ most_lines) }
     ensures tried { IfOk result (λ found. All (IsTried script.now start.now place) found.items) }
-
-    // Where more lines help the script, one of the hints asks for them.
     ensures asks { IfOk result (λ found. MoreLinesHelp (script_of script.now) start.now → Any (AsksForMore script.now start.now) found.items) }
-
-    // Where it helps to state the patterns that are looked for at the place, one of the hints does.
     ensures states { IfOk result (λ found. IsStated script.now start.now place why (map note_value notes.now) found.items) }
 {
-    let line = number_at(alloc, script, place)?;
+    let line = number_at(alloc, script, place, numbering)?;
     let mut found = Vec::new(alloc);
     let fewest = at_least(alloc, script, start, place, line, "")?;
     push_hint(&mut found, script, start, place, fewest)?;
@@ -355,28 +354,12 @@ pub fn hints(
     push_hint(&mut found, script, start, place, most)?;
     let patterns = unmatched_at(alloc, script, place, why, notes)?;
     let found = and_stated(alloc, script, start, place, line, &patterns, found)?;
+    let found = and_marked(alloc, script, start, place, line, why, found)?;
     let mut found = or_further(alloc, script, start, place, line, why, found)?;
-    let drafts = drafts_at(alloc, script, path_of(start), place, why, notes)?;
+    let drafts = drafts_at(alloc, script, path_of(start), place, why, notes, numbering)?;
     let written = first_past(alloc, script, start, place, line, drafts)?;
     push_hint(&mut found, script, start, place, written)?;
-    let found = or_both(alloc, script, start, place, line, why, notes, found)?;
-    and_marked(alloc, script, start, place, line, why, found)
-}
-
-/// What may be told beside hints of a need that fails at a place by a fault.
-pub fn remarks(
-    alloc: Global,
-    script: &[u8],
-    place: Place,
-    why: Fault,
-) -> Result<Vec<Remark>, AllocError> {
-    let line = number_at(alloc, script, place)?;
-    let mut found = Vec::new(alloc);
-    for draft in drafts_at(alloc, script, None, place, why, &[])? {
-        let Draft { text, script, .. } = draft;
-        if script.is_none() {
-            found.push(Remark { line, text })?;
-        }
-    }
-    Ok(found)
+    or_both(
+        alloc, script, start, place, line, why, notes, numbering, found,
+    )
 }

@@ -1,10 +1,14 @@
-//! Parts of bytes. No clause speaks of them: what is made of them is tried.
+//! Parts of bytes. Clauses speak of few of them: what is made of them is tried.
+
+ghost use Rattle.std.specs.Prelude.{◌≡◌, take};
 
 use ed_base::Bytes;
 use std::alloc::{AllocError, Global};
 
 /// The bytes before a place, or all of them.
-pub(crate) fn before(bytes: &[u8], place: usize) -> &[u8] {
+pub(crate) fn before(bytes: &[u8], place: usize) -> &[u8]
+    ensures value { result.now ≡ take place bytes.now }
+{
     match bytes.get(..place) {
         Some(front) => front,
         None => bytes,

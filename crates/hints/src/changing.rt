@@ -1,15 +1,12 @@
 //! How the script of a hint comes from the one that is refused.
 
-ghost use Rattle.std.specs.Prelude.{◌≡◌, ◌||◌, slice_get, option_map, IfOk, IfSome, IsSome, IsTrue};
+ghost use Rattle.std.specs.Prelude.{◌≡◌, IfOk, IfSome, IsSome, IsTrue};
 ghost use Rattle.ed_syntax.specs.PublicScript.{script_value};
-ghost use Rattle.ed_syntax.specs.PublicTypes.{step_value, verb_value};
-ghost use Rattle.ed_syntax.specs.meaning.SearchedGlobals.{changes, writes};
-ghost use Rattle.ed_syntax.specs.reading.Reading.{script_of};
-ghost use Rattle.hints.specs.Hints.{IsUnchanged, IsChanged, IsFurther, IsClosed, IsFrom, AreGlobal, DoesTheSame};
+ghost use Rattle.hints.specs.Hints.{IsUnchanged, IsChanged, IsFurther, IsClosed, IsFrom};
 
 use crate::hint::Change;
 use cert_check::Place;
-use ed_syntax::{Command, Script, Verb, read_script};
+use ed_syntax::{Script, read_script};
 use std::alloc::{AllocError, Global};
 
 /// The change of no command at a place.
@@ -104,59 +101,4 @@ pub(crate) fn change_of(
         Some(change) if change.written > 0 || new.len() < script.len() => Ok(Some(change)),
         _ => Ok(closed(&old, &read, place)),
     }
-}
-
-/// The command of a script at a place, counted from 0.
-fn step_at(script: &Script, index: usize) -> Option<&Command>
-    ensures value { option_map (λ command. step_value command.now) result ≡ slice_get (script_value script.now).steps index }
-{
-    script.commands.as_slice().get(index)
-}
-
-/// Whether a command changes the line that its search found, or writes it.
-fn works_on_found_line(verb: &Verb) -> bool
-    ensures value { result ≡ (changes (verb_value verb.now) || writes (verb_value verb.now)) }
-{
-    verb.changes_found_line() || verb.writes_found_line()
-}
-
-/// Whether the one command that a change writes is a global command that, where one line matches, does what those did that are taken away.
-fn are_global(old: &Script, new: &Script, change: Change) -> bool
-    ensures sound { IsTrue result → AreGlobal (script_value old.now) (script_value new.now) change }
-{
-    let Change {
-        kept,
-        removed,
-        written,
-    } = change;
-    let (Some(first), Some(global)) = (step_at(old, kept), step_at(new, kept)) else {
-        return false;
-    };
-    match (removed, written) {
-        (1, 1) => works_on_found_line(&first.verb) && global.is_global_of(first),
-        (2, 1) => match step_at(old, kept + 1) {
-            Some(second) => {
-                global.is_global_of_both(first, second) && second.verb.changes_found_line()
-            }
-            None => false,
-        },
-        _ => false,
-    }
-}
-
-/// Whether a script is the refused one, or does the same by its change where one line matches.
-pub(crate) fn does_the_same(
-    alloc: Global,
-    script: &[u8],
-    new: &[u8],
-    change: Change,
-) -> Result<bool, AllocError>
-    ensures sound { IfOk result (λ yes. IsTrue yes → DoesTheSame script.now new.now change) }
-{
-    if new == script {
-        return Ok(true);
-    }
-    let old = read_script(alloc, script)?;
-    let other = read_script(alloc, new)?;
-    Ok(are_global(&old, &other, change))
 }

@@ -6,6 +6,7 @@ use crate::bytes::{before, from, joined, replaced};
 use crate::following::{on_text, other_text};
 use crate::globals::{Reach, global_of};
 use crate::hint::Advice;
+use crate::numbering::Numbering;
 use crate::patterns::addresses_len;
 use crate::words::quoted;
 use cert_check::Place;
@@ -60,10 +61,12 @@ pub(crate) struct Spot<'a> {
     pub span: Span,
     /// The bytes there without the newline after them, and without a colon in front where they can't be read.
     pub command: &'a [u8],
-    /// The lines that a global command takes in the stead of the command.
-    pub reach: Reach,
+    /// The lines that a global command takes in the stead of the command, where it is known that its search comes to these alone.
+    pub reach: Option<Reach>,
     /// The path of the start.
     pub path: Option<&'a [u8]>,
+    /// The numbers of the lines in the script that was given.
+    pub numbering: &'a Numbering,
 }
 
 /// Whether a rewriting applies at a spot. If so, it has put its drafts after the others.
@@ -127,7 +130,8 @@ impl Spot<'_> {
         let other = self.with(joined(alloc, &[global.as_slice(), b"\n"])?.as_slice())?;
         let read = read_script(alloc, other.as_slice())?;
         let on = on_text(&read, number, 1, self.path);
-        let later = other_text(alloc, other.as_slice(), &read, number, true, true)?;
+        let lines = self.numbering.mended(alloc, self.script, other.as_slice())?;
+        let later = other_text(alloc, other.as_slice(), &read, &lines, number, true, true)?;
         let both = format!(in alloc;
             "{text}; {shown} can't fail: it changes every line that matches, none if none does{on}{later}"
         )?;

@@ -81,7 +81,7 @@ fn push_meant(spot: &Spot<'_>, drafts: &mut Vec<Draft>, span: Span, starts: &[us
             let low = span.low.saturating_add(*start);
             let high = low.saturating_add(line.len());
             let mended = replaced(alloc, script, low, high, b".")?;
-            let told = no_period(alloc, script, text, low, "alone in")?;
+            let told = no_period(spot, text, low, "alone in")?;
             return spot.push(drafts, Advice::Period, told.as_str(), mended, 0, 1);
         }
     }
@@ -96,7 +96,7 @@ fn push_closing(spot: &Spot<'_>, drafts: &mut Vec<Draft>, span: Span, starts: &[
         if *start > 0 && are_last_commands(alloc, from(text, *start))? {
             let place = span.low.saturating_add(*start);
             let mended = replaced(alloc, script, place, place, b".\n")?;
-            let told = no_period(alloc, script, text, place, "before")?;
+            let told = no_period(spot, text, place, "before")?;
             return spot.push(drafts, Advice::Period, told.as_str(), mended, 0, 1);
         }
     }
@@ -113,14 +113,15 @@ fn from_last(starts: &[usize]) -> &[usize] {
 
 /// What is told of the text of a command without its period, which is to stand at or before the line at a place of the script.
 fn no_period(
-    alloc: Global,
-    script: &[u8],
+    spot: &Spot<'_>,
     command: &[u8],
     place: usize,
     side: &str,
 ) -> Result<String, AllocError> {
+    let (alloc, script) = (spot.alloc, spot.script);
     let shown = quoted(alloc, first_line(command))?;
     let line = count_lines(before(script, place)).saturating_add(1);
+    let line = spot.numbering.line(line);
     let there = quoted(alloc, first_line(from(script, place)))?;
     Ok(format!(in alloc; "the text of {shown} has no `.`: write it {side} line {line}, {there}")?)
 }

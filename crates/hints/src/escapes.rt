@@ -142,7 +142,10 @@ fn push_alternatives(spot: &Spot<'_>, drafts: &mut Vec<Draft>, found: Quoted) ->
             let mended = spot.with(lines.as_slice())?;
             let all = read_script(alloc, mended.as_slice())?;
             let last = spot.place.command.saturating_add(added);
-            let other = other_text(alloc, mended.as_slice(), &all, last, false, false)?;
+            let lines = spot
+                .numbering
+                .mended(alloc, spot.script, mended.as_slice())?;
+            let other = other_text(alloc, mended.as_slice(), &all, &lines, last, false, false)?;
             let text = format!(in alloc; "POSIX has no `\\|`: write a command for each{other}")?;
             let written = added.saturating_add(1);
             return spot.push(drafts, Advice::Spelling, text.as_str(), mended, 1, written);
@@ -192,33 +195,6 @@ pub(crate) fn write_posix_escape(spot: &Spot<'_>, drafts: &mut Vec<Draft>) -> Ap
         };
         let mended = posix_line(alloc, line, patterns.as_slice())?;
         return spot.push_spelled(drafts, foreign, posix, mended.as_slice());
-    }
-    Ok(false)
-}
-
-/// Whether a pattern is written as an extended one: by `|`, or by `+` or `?` after what is more than one byte.
-fn is_extended(alloc: Global, pattern: &[u8]) -> Result<bool, AllocError> {
-    let mut before: u8 = 0;
-    for (index, part) in parts_of(alloc, pattern)?.as_slice().iter().enumerate() {
-        match part {
-            [b'|', ..] if index > 0 => return Ok(true),
-            [b'+' | b'?', ..] if matches!(before, b']' | b')' | b'.') => return Ok(true),
-            [b'[', _, ..] => before = b']',
-            [byte, ..] => before = *byte,
-            [] => {}
-        }
-    }
-    Ok(false)
-}
-
-/// What is told of a pattern that no line need match, since it is written as an extended one.
-pub(crate) fn tell_of_extended_pattern(spot: &Spot<'_>, drafts: &mut Vec<Draft>) -> Applies {
-    let text =
-        "in POSIX patterns `(`, `|`, `+` and `?` are ordinary bytes: `\\(..\\)` is a group, `\\{1,\\}` one or more, `\\{0,1\\}` none or one";
-    for found in patterns_of(spot.alloc, spot.command)?.as_slice() {
-        if is_extended(spot.alloc, between(spot.command, found.low, found.high))? {
-            return spot.remark(drafts, text);
-        }
     }
     Ok(false)
 }

@@ -115,6 +115,15 @@ impl<'a> Evaluated<'a> {
         Ok(())
     }
 
+    /// Sets a name to the line that a search finds, before its offset.
+    pub(crate) fn find(&mut self, name: Name, base: &'a Base) -> Result<(), AllocError> {
+        match base {
+            Base::Forward(pattern) => self.search(name, true, pattern.as_ref(), 0),
+            Base::Backward(pattern) => self.search(name, false, pattern.as_ref(), 0),
+            _ => Ok(()),
+        }
+    }
+
     /// Sets a name to an address.
     pub(crate) fn place(&mut self, name: Name, address: &'a Address) -> Result<(), AllocError> {
         let offset = address.offset;

@@ -1,6 +1,7 @@
 //! What the commands after one do with the line that it leaves, and what else they do.
 
 use crate::commands::{command_at, first_line, pair, span_of};
+use crate::numbering::Numbering;
 use crate::words::quoted;
 use ed_syntax::{Address, Addresses, Alteration, Base, Command, Script, Verb};
 use std::alloc::{AllocError, Global};
@@ -97,7 +98,13 @@ fn user_after(script: &Script, number: usize) -> Option<(usize, &Command)> {
 
 /// Whether it is this command that a `u` after it takes back.
 fn always_changes(command: &Command) -> bool {
-    command.verb.changes_found_line() || matches!(&command.verb, Verb::Global { .. })
+    match &command.verb {
+        Verb::Append(text) | Verb::Insert(text) => !text.is_empty(),
+        Verb::Substitute { replacement, .. } => replacement.is_some(),
+        Verb::Move(target) | Verb::Copy(target) => !is_from_here(Some(target)),
+        Verb::Change(_) | Verb::Delete | Verb::Global { .. } => true,
+        _ => false,
+    }
 }
 
 /// Whether a command neither changes the buffer nor writes anything but all of it to the file of the start.
@@ -143,11 +150,12 @@ pub(crate) fn on_text(
 }
 
 /// Which command works on another line, or takes back something else, after a global command in the place of those up to a number; nothing where
-/// none does. With `line` it leaves the same line where just one line matches, and with `undo` the same to take back.
+/// none does. Its line is told by its number in the script that was given. With `line` it leaves the same line where just one line matches, and with `undo` the same to take back.
 pub(crate) fn other_text(
     alloc: Global,
     script: &[u8],
     read: &Script,
+    numbering: &Numbering,
     number: usize,
     line: bool,
     undo: bool,
@@ -162,7 +170,7 @@ pub(crate) fn other_text(
     let when = if is_left { BUT_FOR_ONE } else { "" };
     match span_of(alloc, script, user)? {
         Some(span) => {
-            let line = span.line;
+            let line = numbering.line(span.line);
             let shown = quoted(alloc, first_line(command_at(script, span)))?;
             Ok(format!(in alloc; "; line {line}, {shown}, then {then}{when}")?)
         }

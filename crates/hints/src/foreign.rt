@@ -86,14 +86,20 @@ pub(crate) fn leave_out_comment(spot: &Spot<'_>, drafts: &mut Vec<Draft>) -> App
     spot.push(drafts, Advice::LeaveOut, text, mended, 1, 0)
 }
 
-/// The letters that write and quit in `ex`, in front of the rest of a line, and what stands after them.
-fn writing_and_quitting(rest: &[u8]) -> Option<(&'static str, &[u8])> {
+/// The letters that write and quit in `ex`, in front of the rest of a line, and what stands after them. With `alone` it has no addresses and is the
+/// last one: in GNU's `ed` an `x` puts the lines that were cut, and only so nobody means that.
+fn writing_and_quitting(rest: &[u8], alone: bool) -> Option<(&'static str, &[u8])> {
     match rest {
         [b'w', b'q', b'!', after @ ..] => Some(("`wq!`", after)),
         [b'w', b'q', after @ ..] => Some(("`wq`", after)),
-        [b'x', after @ ..] => Some(("`x`", after)),
+        [b'x', after @ ..] if alone => Some(("`x`", after)),
         _ => None,
     }
+}
+
+/// Whether nothing comes after a place of a script but blank lines.
+fn is_last(script: &[u8], place: usize) -> bool {
+    from(script, place).trim_ascii().is_empty()
 }
 
 /// The addresses of a `w`: all lines are those that it writes without addresses, also where there are none.
@@ -109,7 +115,8 @@ fn written(addresses: &[u8]) -> &[u8] {
 /// `wq` and `x`, which write and quit.
 pub(crate) fn write_and_quit(spot: &Spot<'_>, drafts: &mut Vec<Draft>) -> Applies {
     let (addresses, rest) = spot.parts()?;
-    let Some((letters, after)) = writing_and_quitting(rest) else {
+    let alone = addresses.trim_ascii().is_empty() && is_last(spot.script, spot.span.high);
+    let Some((letters, after)) = writing_and_quitting(rest, alone) else {
         return Ok(false);
     };
     let write = joined(spot.alloc, &[written(addresses), b"w", after])?;
@@ -120,6 +127,17 @@ pub(crate) fn write_and_quit(spot: &Spot<'_>, drafts: &mut Vec<Draft>) -> Applie
     let lines = joined(spot.alloc, &[write.as_slice(), b"\nq\n"])?;
     let mended = spot.with(lines.as_slice())?;
     spot.push(drafts, Advice::Spelling, text.as_str(), mended, 1, 2)
+}
+
+/// `x` elsewhere.
+pub(crate) fn tell_of_cut_lines(spot: &Spot<'_>, drafts: &mut Vec<Draft>) -> Applies {
+    if first(spot.parts()?.1) != Some(b'x') {
+        return Ok(false);
+    }
+    spot.remark(
+        drafts,
+        "POSIX has no `x`, by which GNU's `ed` puts lines that were cut: `m` moves lines, `t` copies them",
+    )
 }
 
 /// `%` for all lines. What takes all lines without addresses has none, also where there are no lines.

@@ -2,6 +2,7 @@
 
 use crate::bytes::{before, between, first, from, joined};
 use crate::commands::{first_line, pair, without_newline};
+use crate::evaluated::Evaluated;
 use crate::following::is_also_from_here;
 use crate::patterns::{addresses_len, pattern_at};
 use ed_base::{Bytes, next_line};
@@ -14,7 +15,7 @@ use zones::Name;
 #[derive(Clone, Copy)]
 pub(crate) enum Reach {
     All,
-    /// The search began at a line that the script had set: from that one on, or back.
+    /// From the current line on, or back.
     On,
     Back,
 }
@@ -30,20 +31,36 @@ impl Reach {
     }
 }
 
-/// Which lines a global command takes in the place of a search that a command begins with, where this is known: a search that begins at the
-/// last line, or before the second one, comes to all lines one after another.
-pub(crate) fn reach_of(command: &Command, state: Option<&KeptState>) -> Reach {
+/// Which lines a global command takes in the place of a search that a command begins with, by what is known before it. A search that begins at
+/// the last line, or before the second one, comes to all lines one after another. Any other goes round an end of the file, where the lines from
+/// the current one on, or back, have an end: it takes those alone where it is known that its line is one of them. None where that isn't known.
+pub(crate) fn reach_of(
+    alloc: Global,
+    command: &Command,
+    state: Option<&KeptState>,
+) -> Result<Option<Reach>, AllocError> {
     let (Some(address), Some(state)) = (pair(&command.addresses).0, state) else {
-        return Reach::All;
+        return Ok(Some(Reach::All));
+    };
+    let reach = match &address.base {
+        Base::Forward(_) => Reach::On,
+        Base::Backward(_) => Reach::Back,
+        _ => return Ok(Some(Reach::All)),
     };
     let zone = state.zone();
-    let is_last = zone.is_known(Name::LAST_LINE, Name::CURRENT_LINE, 0);
-    match &address.base {
-        Base::Forward(_) if !is_last && !zone.is_known(Name::CURRENT_LINE, Name::ZERO, 1) =>
-            Reach::On,
-        Base::Backward(_) if !is_last => Reach::Back,
-        _ => Reach::All,
+    if zone.is_known(Name::LAST_LINE, Name::CURRENT_LINE, 0)
+        || zone.is_known(Name::CURRENT_LINE, Name::ZERO, 1)
+    {
+        return Ok(Some(Reach::All));
     }
+    let mut known = Evaluated::before(alloc, state)?;
+    known.find(Name::FIRST_ADDRESS, &address.base)?;
+    let (low, high) = match reach {
+        Reach::Back => (Name::FIRST_ADDRESS, Name::CURRENT_LINE),
+        _ => (Name::CURRENT_LINE, Name::FIRST_ADDRESS),
+    };
+    let lies_there = known.zone.is_known(low, high, 0);
+    Ok(if lies_there { Some(reach) } else { None })
 }
 
 /// The search that a line begins with, with both of its delimiters, and what stands after it. None where the line begins otherwise, or where

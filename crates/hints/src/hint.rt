@@ -51,9 +51,10 @@ pub struct Hint {
     pub(crate) text: String,
     pub(crate) script: Bytes,
     pub(crate) start: Start,
+    /// How many commands of its script are got past, of which the first stands at the place: those that come in the place of one, or none
+    /// where a line is left out, or where only its spelling is mended.
     pub(crate) past: usize,
     pub(crate) change: Change,
-    pub(crate) same: bool,
 }
 
 impl Hint {
@@ -92,28 +93,11 @@ impl Hint {
         &self.start
     }
 
-    /// How many commands of its script are got past, of which the first stands at the place: those that come in the place of one, or none
-    /// where a line is left out, or where only its spelling is mended.
-    pub fn past(&self) -> usize
-        ensures value { result ≡ self.now.past }
-    {
-        self.past
-    }
-
     /// Which commands of the script it changes.
     pub fn change(&self) -> Change
         ensures value { result ≡ self.now.change }
     {
         self.change
-    }
-
-    /// Whether what it writes is known to do the same where just one line matches: the script is the refused one, or has a global command in
-    /// the stead of one that changes or writes the line for which it searches, or of a search alone and a command that changes its line. The
-    /// buffer, the current line and the files are then the same; not always what a `u` takes back.
-    pub fn does_the_same(&self) -> bool
-        ensures value { result ≡ self.now.same }
-    {
-        self.same
     }
 }
 

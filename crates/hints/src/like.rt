@@ -1,17 +1,18 @@
 //! The start that is proposed for a script from a file.
 
-ghost use Rattle.std.specs.Prelude.{◌≡◌, ◌≤◌, ◌↔◌, ◌&&◌, [], length, map, option_map, IfOk, IfSome, IsSome};
+ghost use Rattle.std.specs.Prelude.{◌≡◌, ◌≤◌, ◌↔◌, ◌&&◌, [], length, map, option_map, pos, IfOk, IfSome, IsSome};
 ghost use Rattle.std.specs.List.{filter, list_all, list_any};
+ghost use Rattle.std.specs.Ordering.{int_eq};
 ghost use Rattle.ed_base.specs.Lines.{lines_of};
 ghost use Rattle.ed_syntax.specs.PublicScript.{script_value};
-ghost use Rattle.ed_syntax.specs.PublicTypes.{address_value, command_value, step_value};
+ghost use Rattle.ed_syntax.specs.PublicTypes.{address_value, addresses_value, command_value, step_value};
 ghost use Rattle.ed_syntax.specs.meaning.Values.{matches};
 ghost use Rattle.ed_syntax.specs.reading.Reading.{script_of};
 ghost use Rattle.ed_rules.specs.Exact.{is_target_by_number};
 ghost use Rattle.ed_rules.specs.LineBounds.{most_lines};
 ghost use Rattle.hints.specs.Passing.{IsAllowed, IsVouched};
 ghost use Rattle.hints.specs.Like as meaning;
-ghost use Rattle.hints.specs.Like.{IsLike, given_within, lines_in, names_later_line, stateable, takes_by_number, takes_none_by_text};
+ghost use Rattle.hints.specs.Like.{IsLike, are_numbered, given_within, is_just, is_last, is_one, lines_in, names_line_from, names_lines_from, stateable, takes_by_number, takes_none_by_text};
 
 use crate::commands::pair;
 use crate::given::Given;
@@ -22,7 +23,7 @@ use crate::widest::widest_of;
 use analyser::Start;
 use ed_base::{Bytes, count_lines};
 use ed_rules::{Texts, some_line_matches};
-use ed_syntax::{Address, Base, Command, Script, read_script};
+use ed_syntax::{Address, Addresses, Base, Command, Script, read_script};
 use std::alloc::{AllocError, Global};
 
 /// A file from which a start is proposed (`like_start`).
@@ -49,17 +50,58 @@ fn is_by_number(address: Option<&Address>) -> bool
     }
 }
 
-/// Whether an address begins with the number of a line after the first one.
-fn names_later_line(address: Option<&Address>) -> bool
-    ensures value { result ≡ names_later_line (option_map (λ address. address_value address.now) address.entry) }
+/// Whether an address begins with the number of a line, of those from this number on.
+fn names_line_from(least: u32, address: Option<&Address>) -> bool
+    ensures value { result ≡ names_line_from least (option_map (λ address. address_value address.now) address.entry) }
 {
     let Some(address) = address else {
         return false;
     };
     match &address.base {
-        Base::Number(number) => *number > 1,
+        Base::Number(number) => least <= *number,
         _ => false,
     }
+}
+
+/// Whether an address is line 1.
+fn is_line_one(address: Option<&Address>) -> bool
+    ensures value { result ≡ is_just is_one (option_map (λ address. address_value address.now) address.entry) }
+{
+    let Some(address) = address else {
+        return false;
+    };
+    match &address.base {
+        Base::Number(number) => *number == 1 && has_no_offset(address),
+        _ => false,
+    }
+}
+
+/// Whether an address is the last line.
+fn is_last_line(address: Option<&Address>) -> bool
+    ensures value { result ≡ is_just is_last (option_map (λ address. address_value address.now) address.entry) }
+{
+    let Some(address) = address else {
+        return false;
+    };
+    match &address.base {
+        Base::Last => has_no_offset(address),
+        _ => false,
+    }
+}
+
+fn has_no_offset(address: &Address) -> bool
+    ensures value { result ≡ int_eq (address_value address.now).offset (pos 0) }
+{
+    address.offset == 0
+}
+
+/// Whether the addresses before a command name a line by its number, of those from this number on. `1,$` names none: it is all lines.
+fn are_numbered(least: u32, addresses: &Addresses) -> bool
+    ensures value { result ≡ are_numbered least (addresses_value addresses.now) }
+{
+    let (first, second) = pair(addresses);
+    let all = is_line_one(first) && is_last_line(second);
+    (names_line_from(least, first) || names_line_from(least, second)) && !all
 }
 
 /// Whether a command takes no line by what it holds, nor by a mark.
@@ -71,14 +113,11 @@ fn takes_none_by_text(command: &Command) -> bool
     is_by_number(first) && is_by_number(second) && is_by_number(takes.target) && !takes.global
 }
 
-/// Whether a command names a line after the first one by its number.
-fn takes_by_number(command: &Command) -> bool
-    ensures value { result ≡ takes_by_number (step_value command.now) }
+/// Whether a command names a line by its number, of those from this number on.
+fn takes_by_number(least: u32, command: &Command) -> bool
+    ensures value { result ≡ takes_by_number least (step_value command.now) }
 {
-    let (first, second) = pair(&command.addresses);
-    names_later_line(first)
-        || names_later_line(second)
-        || names_later_line(command.verb.takes().target)
+    are_numbered(least, &command.addresses) || names_line_from(least, command.verb.takes().target)
 }
 
 /// Whether no command of some takes a line by what it holds, nor by a mark.
@@ -93,24 +132,40 @@ fn take_none_by_text(commands: &[Command]) -> bool
     true
 }
 
-/// Whether some command names a line after the first one by its number.
-fn take_by_number(commands: &[Command]) -> bool
-    ensures value { result ≡ list_any takes_by_number (map step_value commands.now) }
+/// Whether some command names a line by its number, of those from this number on.
+fn take_by_number(least: u32, commands: &[Command]) -> bool
+    ensures value { result ≡ list_any (takes_by_number least) (map step_value commands.now) }
 {
     for command in commands {
-        if takes_by_number(command) {
+        if takes_by_number(least, command) {
             return true;
         }
     }
     false
 }
 
-/// Whether a script takes lines by their numbers, and none otherwise, as `diff -e` writes one: so it is for files with just so many lines.
+/// Whether no command takes a line otherwise than by its number, and some command names one, of those from this number on.
+fn names_lines_from(least: u32, script: &Script) -> bool
+    ensures value { result ≡ names_lines_from least (script_value script.now) }
+{
+    let commands = script.commands.as_slice();
+    take_none_by_text(commands) && take_by_number(least, commands)
+}
+
+/// Whether a script takes lines by their numbers, line 0 and line 1 too, and none otherwise, as `diff -e` writes one: so it is for files with just
+/// so many lines. `1,$` takes none by its number.
 pub fn is_by_numbers(script: &Script) -> bool
     ensures value { result ≡ meaning.is_by_numbers (script_value script.now) }
 {
-    let commands = script.commands.as_slice();
-    take_none_by_text(commands) && take_by_number(commands)
+    names_lines_from(0, script)
+}
+
+/// Whether that is so, and one of the lines comes after the first: what a person is told where no file is at hand, since line 0 and line 1 stand
+/// for the beginning of whatever file it is.
+pub fn names_later_lines(script: &Script) -> bool
+    ensures value { result ≡ meaning.names_later_lines (script_value script.now) }
+{
+    names_lines_from(2, script)
 }
 
 /// What is given of the start, with these bounds.

@@ -9,9 +9,11 @@ ghost use Rattle.hints.specs.Hints.{IsTried};
 use crate::changing::unchanged_at;
 use crate::given::Given;
 use crate::hint::{Advice, Hint};
-use crate::landmark_words::{landmarks_text, options_of};
 use crate::landmarking::landmark_start_within;
 use crate::starts::{copy_of_has, copy_of_landmarks, copy_of_path};
+use crate::stating::has_option;
+use crate::wording::landmarks_text;
+use crate::words::whole_word;
 use analyser::Start;
 use cert_check::Place;
 use ed_base::{Bytes, Texts};
@@ -67,6 +69,43 @@ fn patterns_beyond(alloc: Global, opened: &Start, start: &Start) -> Result<Texts
     Ok(beyond)
 }
 
+/// Puts an option and its word, all of it, since it is to be typed. Whether it can be.
+fn push_option(
+    alloc: Global,
+    options: &mut String,
+    option: &str,
+    word: &[u8],
+) -> Result<bool, AllocError> {
+    let Some(shown) = whole_word(alloc, word)? else {
+        return Ok(false);
+    };
+    options.push_str(option)?;
+    options.push_str(shown.as_str())?;
+    Ok(true)
+}
+
+/// The options that state these patterns and these chains, each with a space before it. None where one of them can't be typed.
+fn options_of(
+    alloc: Global,
+    patterns: &Texts,
+    chains: &[LandmarkChain],
+) -> Result<Option<String>, AllocError> {
+    let mut options = String::new(alloc);
+    for pattern in patterns.members() {
+        let text = pattern.as_slice();
+        if !push_option(alloc, &mut options, has_option(text), text)? {
+            return Ok(None);
+        }
+    }
+    for chain in chains {
+        // No chain begins with a hyphen.
+        if !push_option(alloc, &mut options, " --at ", chain.text().as_slice())? {
+            return Ok(None);
+        }
+    }
+    Ok(Some(options))
+}
+
 /// The words of the hint. None where no chain is stated more, or one can't be typed.
 fn text_of(alloc: Global, opened: &Start, start: &Start) -> Result<Option<String>, AllocError> {
     let added = chains_beyond(opened, start);
@@ -115,6 +154,5 @@ pub(crate) fn with_landmark(
         start: opened,
         past: 1,
         change: unchanged_at(place),
-        same: true,
     }))
 }

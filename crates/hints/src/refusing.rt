@@ -1,15 +1,17 @@
 //! All refusals of a script, each found with the earlier ones mended.
 
 ghost use Rattle.std.specs.Prelude.{◌≡◌, ◌∷◌, ◌≤◌, [], List, length, IfOk, IfSome, MatchOption};
+ghost use Rattle.std.specs.Option.{option_copied};
 ghost use Rattle.ed_syntax.specs.reading.Reading.{script_of};
 ghost use Rattle.ed_rules.specs.LineBounds.{most_lines, IsAtMost};
 ghost use Rattle.hints.specs.declared.hint.Hint.{Hint};
 ghost use Rattle.hints.specs.Passing.{IsVouched};
 ghost use Rattle.hints.specs.Hints.{most_refusals, IsRefusal, AreRefusals};
 
-use crate::advising::{hints, remarks};
 use crate::hint::{Hint, Remark};
+use crate::numbering::Numbering;
 use crate::starts::copy_of;
+use crate::suiting::{numbered_hints, numbered_remarks};
 use analyser::{Analysis, Start, analyse};
 use cert_check::{Note, Place};
 use ed_base::{Bytes, Fault};
@@ -33,6 +35,8 @@ pub struct Refusal {
     /// The best first.
     pub hints: Vec<Hint>,
     pub remarks: Vec<Remark>,
+    /// The numbers of the lines in the script that was given.
+    pub(crate) numbering: Numbering,
 }
 
 impl Refusal {
@@ -48,24 +52,35 @@ impl Refusal {
     }
 }
 
-/// The refusal of a script over a start, with its hints; none where it is vouched for.
-pub fn first_refusal(
+/// The refusal of a script over a start, with its hints; none where it is vouched for. Lines are told by their numbers in the script that was given.
+fn refusal_of(
     alloc: Global,
     script: &[u8],
     start: &Start,
+    file: Option<&Bytes>,
+    numbering: Numbering,
 ) -> Result<Option<Refusal>, AllocError>
     requires ordered { IsAtMost start.now.min start.now.max }
     requires low { start.now.min ≤ most_lines }
     requires high { IfSome start.now.max (λ most. most ≤ most_lines) }
     ensures exact { IfOk result (λ found. MatchOption found (IsVouched (script_of script.now) start.now)
-        (λ r. IsRefusal r × (r.script ≡ script.now) × (r.start ≡ start.now))) }
+        (λ r. IsRefusal (option_copied file.entry) r × (r.script ≡ script.now) × (r.start ≡ start.now))) }
 {
     let read = read_script(alloc, script)?;
     match analyse(&read, copy_of(start)?)? {
         Analysis::Vouched(_) => Ok(None),
         Analysis::Cannot { place, why, notes } => {
-            let hints = hints(alloc, script, start, place, why, notes.as_slice())?;
-            let remarks = remarks(alloc, script, place, why)?;
+            let hints = numbered_hints(
+                alloc,
+                script,
+                start,
+                place,
+                why,
+                notes.as_slice(),
+                file,
+                &numbering,
+            )?;
+            let remarks = numbered_remarks(alloc, script, place, why, &numbering)?;
             Ok(Some(Refusal {
                 place,
                 why,
@@ -74,26 +89,52 @@ pub fn first_refusal(
                 start: copy_of(start)?,
                 hints,
                 remarks,
+                numbering,
             }))
         }
     }
 }
 
-/// The refusals of a script over a start, at most ten: each later one is found with the earlier ones mended, as the first hint of each
-/// says. A refusal without a hint is the last one; else fewer than ten come only where what the last one's first hint says is vouched for.
-pub fn refusals(alloc: Global, script: &[u8], start: &Start) -> Result<Vec<Refusal>, AllocError>
+/// The refusal of a script over a start, with its hints; none where it is vouched for. Where a file is at hand that the start allows, the start of
+/// each hint allows it too.
+pub fn first_refusal(
+    alloc: Global,
+    script: &[u8],
+    start: &Start,
+    file: Option<&Bytes>,
+) -> Result<Option<Refusal>, AllocError>
     requires ordered { IsAtMost start.now.min start.now.max }
     requires low { start.now.min ≤ most_lines }
     requires high { IfSome start.now.max (λ most. most ≤ most_lines) }
-    ensures each { IfOk result (λ found. AreRefusals script.now start.now found.items) }
+    ensures exact { IfOk result (λ found. MatchOption found (IsVouched (script_of script.now) start.now)
+        (λ r. IsRefusal (option_copied file.entry) r × (r.script ≡ script.now) × (r.start ≡ start.now))) }
+{
+    refusal_of(alloc, script, start, file, Numbering::same())
+}
+
+/// The refusals of a script over a start, at most ten: each later one is found with the earlier ones mended, as the first hint of each
+/// says. Where that states more of the start, the next one is over that start. A refusal without a hint is the last one; else fewer than ten come
+/// only where what the last one's first hint says is vouched for. Where a file is at hand that the start allows, the start of each hint allows it
+/// too. Lines are told by their numbers in the script that was given.
+pub fn refusals(
+    alloc: Global,
+    script: &[u8],
+    start: &Start,
+    file: Option<&Bytes>,
+) -> Result<Vec<Refusal>, AllocError>
+    requires ordered { IsAtMost start.now.min start.now.max }
+    requires low { start.now.min ≤ most_lines }
+    requires high { IfSome start.now.max (λ most. most ≤ most_lines) }
+    ensures each { IfOk result (λ found. AreRefusals (option_copied file.entry) script.now start.now found.items) }
     ensures none { IfOk result (λ found. found.items ≡ [] → IsVouched (script_of script.now) start.now) }
     ensures few { IfOk result (λ found. length found.items ≤ most_refusals) }
 {
     let mut found = Vec::new(alloc);
     let mut current = Bytes::from_slice(alloc, script)?;
     let mut opened = copy_of(start)?;
+    let mut numbering = Numbering::same();
     'turns: for turn in 0..MOST_REFUSALS {
-        let Some(refusal) = first_refusal(alloc, current.as_slice(), &opened)? else {
+        let Some(refusal) = refusal_of(alloc, current.as_slice(), &opened, file, numbering)? else {
             return Ok(found);
         };
         match refusal.mended()? {
@@ -102,6 +143,8 @@ pub fn refusals(alloc: Global, script: &[u8], start: &Start) -> Result<Vec<Refus
                 return Ok(found);
             }
             Some((mended, bounded)) => {
+                let lines = &refusal.numbering;
+                numbering = lines.mended(alloc, current.as_slice(), mended.as_slice())?;
                 found.push(refusal)?;
                 current = mended;
                 opened = bounded;

@@ -3,18 +3,18 @@
 use crate::commands::{command_at, command_of, line_of_span, span_in};
 use crate::drafts::{Applies, Draft, Spot};
 use crate::endings::{close_text, quit_anyway, quit_at_end, write_at_end, write_first};
-use crate::escapes::{tell_of_extended_pattern, write_posix_escape};
+use crate::escapes::write_posix_escape;
 use crate::foreign::{
     leave_out_colon, leave_out_comment, leave_out_returns, leave_out_shell, match_both_cases,
-    name_file, part_commands, take_all_lines, take_counted_lines, without_asking, write_and_quit,
-    write_whole_file,
+    name_file, part_commands, take_all_lines, take_counted_lines, tell_of_cut_lines,
+    without_asking, write_and_quit, write_whole_file,
 };
 use crate::globals::{Reach, reach_of};
 use crate::known::state_at;
 use crate::lists::{move_to_end, tell_of_line_beside};
+use crate::numbering::Numbering;
 use crate::searches::{
     as_global, as_global_of_all, begin_at_first, leave_out_blank, tell_of_all_lines,
-    tell_of_counted_line,
 };
 use cert_check::{Note, Place};
 use ed_base::Fault;
@@ -37,9 +37,7 @@ fn push_all(site: Site, why: Fault, spot: &Spot<'_>, drafts: &mut Vec<Draft>) ->
             as_global(spot, drafts)?; // `/P/d`
             as_global_of_all(spot, drafts)?; // the same over all lines
             begin_at_first(spot, drafts)?; // `/A/,/B/d`
-            tell_of_counted_line(spot, drafts)?; // `/P/,+2d`
-            tell_of_all_lines(spot, drafts)?; // `s/a/b/`
-            tell_of_extended_pattern(spot, drafts) // `s/(a|b)+/c/`
+            tell_of_all_lines(spot, drafts) // `s/a/b/`
         }
         (Site::Command, Fault::Address) => {
             leave_out_blank(spot, drafts)?; // a blank line
@@ -67,7 +65,8 @@ fn push_foreign(spot: &Spot<'_>, drafts: &mut Vec<Draft>) -> Applies {
     leave_out_colon(spot, drafts)?; // `:d`
     let _ = leave_out_returns(spot, drafts)? // a CR at its end
         || leave_out_comment(spot, drafts)? // `# ..`
-        || write_and_quit(spot, drafts)? // `wq`, `x`
+        || write_and_quit(spot, drafts)? // `wq`, `x` at the end
+        || tell_of_cut_lines(spot, drafts)? // `1x`
         || take_all_lines(spot, drafts)? // `%d`
         || without_asking(spot, drafts)? // `q!`, `w!`
         || take_counted_lines(spot, drafts)? // `d2`
@@ -136,14 +135,20 @@ fn after_colon(line: &[u8]) -> &[u8] {
 }
 
 /// The lines that a global command takes in the place of the command at a place, before which this is known.
-fn reach_at(read: &Script, place: Place, notes: &[Note]) -> Reach {
+fn reach_at(
+    alloc: Global,
+    read: &Script,
+    place: Place,
+    notes: &[Note],
+) -> Result<Option<Reach>, AllocError> {
     match command_of(read, place) {
-        Some(command) => reach_of(command, state_at(place, notes)),
-        None => Reach::All,
+        Some(command) => reach_of(alloc, command, state_at(place, notes)),
+        None => Ok(Some(Reach::All)),
     }
 }
 
-/// What may help at a place, before which this is known, by a start with this path: the best first.
+/// What may help at a place, before which this is known, by a start with this path: the best first. Lines are told by their numbers in the script
+/// that was given.
 pub(crate) fn drafts_at(
     alloc: Global,
     script: &[u8],
@@ -151,6 +156,7 @@ pub(crate) fn drafts_at(
     place: Place,
     why: Fault,
     notes: &[Note],
+    numbering: &Numbering,
 ) -> Result<Vec<Draft>, AllocError> {
     let read = read_script(alloc, script)?;
     let spans = places(alloc, script)?;
@@ -168,8 +174,9 @@ pub(crate) fn drafts_at(
         } else {
             command
         },
-        reach: reach_at(&read, place, notes),
+        reach: reach_at(alloc, &read, place, notes)?,
         path,
+        numbering,
     };
     let mut drafts = Vec::new(alloc);
     push_all(site, why, &spot, &mut drafts)?;

@@ -9,7 +9,7 @@ use crate::hint::Advice;
 use crate::patterns::{Quoted, pattern_at};
 use crate::words::quoted;
 use ed_base::Bytes;
-use ed_syntax::{Addresses, Base, Command, Verb, after_blanks};
+use ed_syntax::{Command, Verb, after_blanks};
 use std::alloc::{AllocError, Global};
 
 /// How many commands go into one list at most.
@@ -66,7 +66,7 @@ fn effect_text(spot: &Spot<'_>, taken: Taken<'_>, on: &str) -> Result<String, Al
     let which = match (taken.reach, spot.reach) {
         (Reach::On, _) => " from the current line on",
         (Reach::Back, _) => " from the current line back",
-        (Reach::All, Reach::All) => "",
+        (Reach::All, Some(Reach::All)) => "",
         (Reach::All, _) => ", wherever the search began",
     };
     Ok(format!(in spot.alloc; "{does}{which}, none if none does{on}")?)
@@ -115,7 +115,9 @@ fn push_taken(spot: &Spot<'_>, drafts: &mut Vec<Draft>, taken: Taken<'_>) -> App
     let is_alone = taken.listed == 0;
     let sets = sets_line(taken.command);
     let undo = is_alone && sets && taken.command.verb.takes().alters;
-    let other = other_text(alloc, spot.script, spot.read, last, !is_alone || sets, undo)?;
+    let lines = spot.numbering;
+    let same_line = !is_alone || sets;
+    let other = other_text(alloc, spot.script, spot.read, lines, last, same_line, undo)?;
     let text = format!(in alloc; "{shown} can't fail: {effect}{list}{other}")?;
     let mended = replaced(alloc, spot.script, low, high, global.as_slice())?;
     spot.push(drafts, Advice::Global, text.as_str(), mended, count, 1)
@@ -161,15 +163,18 @@ fn push_reach(spot: &Spot<'_>, drafts: &mut Vec<Draft>, reach: Reach) -> Applies
     Ok(true)
 }
 
-/// The command as a global command.
+/// The command as a global command, where it is known to which lines its search comes.
 pub(crate) fn as_global(spot: &Spot<'_>, drafts: &mut Vec<Draft>) -> Applies {
-    push_reach(spot, drafts, spot.reach)
+    match spot.reach {
+        Some(reach) => push_reach(spot, drafts, reach),
+        None => Ok(false),
+    }
 }
 
-/// The same for all lines, where it would take those on one side of the current one.
+/// The same for all lines, where that isn't known or where they are those on one side of the current one.
 pub(crate) fn as_global_of_all(spot: &Spot<'_>, drafts: &mut Vec<Draft>) -> Applies {
     match spot.reach {
-        Reach::All => Ok(false),
+        Some(Reach::All) => Ok(false),
         _ => push_reach(spot, drafts, Reach::All),
     }
 }
@@ -217,23 +222,6 @@ pub(crate) fn begin_at_first(spot: &Spot<'_>, drafts: &mut Vec<Draft>) -> Applie
     spot.push(drafts, Advice::Semicolon, text.as_str(), mended, 1, 1)
 }
 
-/// What is told where a second address after a search and a `,` is counted from the current line.
-pub(crate) fn tell_of_counted_line(spot: &Spot<'_>, drafts: &mut Vec<Draft>) -> Applies {
-    let Some(command) = command_of(spot.read, spot.place) else {
-        return Ok(false);
-    };
-    let Addresses::Comma(found, counted) = &command.addresses else {
-        return Ok(false);
-    };
-    let is_search = matches!(&found.base, Base::Forward(_) | Base::Backward(_));
-    if !is_search || !matches!(&counted.base, Base::Current) {
-        return Ok(false);
-    }
-    let text =
-        "after a `,` the second address is counted from the current line as it was before; after a `;` from the line that is found";
-    spot.remark(drafts, text)
-}
-
 /// What `sed` would do by an `s` without addresses.
 pub(crate) fn tell_of_all_lines(spot: &Spot<'_>, drafts: &mut Vec<Draft>) -> Applies {
     if first(spot.command) != Some(b's') {
@@ -254,7 +242,16 @@ pub(crate) fn leave_out_blank(spot: &Spot<'_>, drafts: &mut Vec<Draft>) -> Appli
         return Ok(false);
     }
     let number = spot.place.command;
-    let other = other_text(spot.alloc, spot.script, spot.read, number, false, false)?;
+    let lines = spot.numbering;
+    let other = other_text(
+        spot.alloc,
+        spot.script,
+        spot.read,
+        lines,
+        number,
+        false,
+        false,
+    )?;
     let text = format!(in spot.alloc;
         "a blank line is a command, which goes on to the next line: leave it out{other}"
     )?;

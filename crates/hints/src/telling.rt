@@ -3,17 +3,18 @@
 ghost use Rattle.std.specs.Prelude.{◌≡◌, ◌≤◌, IfSome};
 ghost use Rattle.ed_rules.specs.LineBounds.{most_lines, IsAtMost};
 
-use crate::advising::{hints, remarks};
 use crate::commands::{command_at, line_at, line_of_span, span_of};
 use crate::hint::{Hint, Remark};
 use crate::known::state_at;
+use crate::numbering::Numbering;
 use crate::reasons::{Failed, reason};
 use crate::refusing::Refusal;
+use crate::suiting::{hints, remarks};
 use crate::told_line::{Failure, Said, ShownCommand, ToldLine};
 use crate::words::quoted;
 use analyser::Start;
 use cert_check::{Note, Place};
-use ed_base::{Fault, count_lines};
+use ed_base::{Bytes, Fault, count_lines};
 use ed_rules::KeptState;
 use ed_syntax::Span;
 use std::alloc::{AllocError, Global};
@@ -77,36 +78,52 @@ fn failure_told(failed: &Failed<'_>) -> Result<ToldLine, AllocError> {
     }
 }
 
-/// What is known of a line's number, and the last number that this tells.
-fn bounds_text(alloc: Global, zone: &Zone, name: Name) -> Result<(String, i64), AllocError> {
+/// What is known of a line's number, and the last number that this tells. None where that can't be.
+fn bounds_text(
+    alloc: Global,
+    zone: &Zone,
+    name: Name,
+) -> Result<Option<(String, i64)>, AllocError> {
     let least = zone.least(name, Name::ZERO).unwrap_or(0).max(0);
     match zone.bound(name, Name::ZERO) {
-        Some(most) if most == least => Ok((format!(in alloc; "{least}")?, least)),
-        Some(most) => Ok((
+        Some(most) if most < least => Ok(None),
+        Some(most) if most == least => Ok(Some((format!(in alloc; "{least}")?, least))),
+        Some(most) => Ok(Some((
             format!(in alloc; "at least {least} and at most {most}")?,
             most,
-        )),
-        None => Ok((format!(in alloc; "at least {least}")?, least)),
+        ))),
+        None => Ok(Some((format!(in alloc; "at least {least}")?, least))),
     }
 }
 
-/// What is known of the last line and the current one.
+/// What is known of the last line and the current one. Where no number of lines is left, no file comes there.
 fn known_text(alloc: Global, state: &KeptState) -> Result<String, AllocError> {
     let zone = state.zone();
-    let (last, count) = bounds_text(alloc, &zone, Name::LAST_LINE)?;
-    let (current, _) = bounds_text(alloc, &zone, Name::CURRENT_LINE)?;
-    let lines = if count == 1 { "line" } else { "lines" };
-    Ok(format!(in alloc; "{last} {lines}, the current line {current}")?)
+    match (
+        bounds_text(alloc, &zone, Name::LAST_LINE)?,
+        bounds_text(alloc, &zone, Name::CURRENT_LINE)?,
+    ) {
+        (Some((last, count)), Some((current, _))) => {
+            let lines = if count == 1 { "line" } else { "lines" };
+            Ok(format!(in alloc; "{last} {lines}, the current line {current}")?)
+        }
+        _ => String::from_str(alloc, NOTHING),
+    }
 }
+
+/// What is known where no file comes.
+const NOTHING: &str = "nothing can come here";
 
 /// What is told of a refusal.
 fn told_of(
     failed: &Failed<'_>,
     hints: &[Hint],
     remarks: &[Remark],
+    numbering: &Numbering,
 ) -> Result<ToldLine, AllocError> {
     let alloc = failed.alloc;
     let mut told = failure_told(failed)?;
+    told.line = numbering.line(told.line);
     if let Some(state) = failed.state {
         told.more.push(Said::Known(known_text(alloc, state)?))?;
     }
@@ -121,7 +138,8 @@ fn told_of(
     Ok(told)
 }
 
-/// What a person is told of a need that fails: where, why, what is known there, and its hints and remarks.
+/// What a person is told of a need that fails: where, why, what is known there, and its hints and remarks. Where a file is at hand that the start
+/// allows, none of the hints asks for what it lacks.
 pub fn told(
     alloc: Global,
     script: &[u8],
@@ -129,12 +147,13 @@ pub fn told(
     place: Place,
     why: Fault,
     notes: &[Note],
+    file: Option<&Bytes>,
 ) -> Result<ToldLine, AllocError>
     requires ordered { IsAtMost start.now.min start.now.max }
     requires low { start.now.min ≤ most_lines }
     requires high { IfSome start.now.max (λ most. most ≤ most_lines) }
 {
-    let hints = hints(alloc, script, start, place, why, notes)?;
+    let hints = hints(alloc, script, start, place, why, notes, file)?;
     let remarks = remarks(alloc, script, place, why)?;
     let failed = Failed {
         alloc,
@@ -143,7 +162,12 @@ pub fn told(
         why,
         state: state_at(place, notes),
     };
-    told_of(&failed, hints.as_slice(), remarks.as_slice())
+    told_of(
+        &failed,
+        hints.as_slice(),
+        remarks.as_slice(),
+        &Numbering::same(),
+    )
 }
 
 impl Refusal {
@@ -156,6 +180,11 @@ impl Refusal {
             why: self.why,
             state: state_at(self.place, self.notes.as_slice()),
         };
-        told_of(&failed, self.hints.as_slice(), self.remarks.as_slice())
+        told_of(
+            &failed,
+            self.hints.as_slice(),
+            self.remarks.as_slice(),
+            &self.numbering,
+        )
     }
 }

@@ -12,8 +12,6 @@ returns-then-not-branch-clause-given c =
 pub returns-clause-tried : goal.returns-clause-tried
 returns-clause-tried c =
     let is-from = rw c.in-Some-2.is at c.in_ok-change.ensures.from in
-    let same = c.in_ok-same.ensures.sound in
     tried-by c.args.script.now c.args.start.now c.args.place _ c.as_slice.result.now c.args.start.now c.args.draft.past (keeps-itself c.args.start.now) (inl refl) (λ nowhere. nowhere)
     (record { ordered = c.requires.ordered; low = c.requires.low; high = c.requires.high }) (c.in_ok-gets_past_all.ensures.sound c.if-not-branch.false)
     (c.new.view_is ∙ sym c.as_slice.ensures.value) c.in_ok-copy_of.ensures.value refl (rw (c.as_slice-2.ensures.value ∙ sym c.as_slice.ensures.value) at is-from)
-    (rw (c.as_slice-3.ensures.value ∙ sym c.as_slice.ensures.value) at same)

@@ -1,3 +1,4 @@
+use Rattle.std.specs.Option.{option_copied}
 use Rattle.std.proofs.Common.{◌≡◌, length, arith, sym, ◌∙◌, subst}
 use Rattle.hints.specs.Passing.{IsAllowed}
 use Rattle.hints.specs.Hints.{cut}
@@ -6,23 +7,23 @@ use Rattle.hints.proofs.refusing.refusals.Goals as goal
 
 pub turns-init : goal.turns-init
 turns-init c = record {
-  mended = begins c.args.script.now c.args.start.now c.new-found.result.items c.in_ok-current.current c.in_ok-opened.opened c.new-found.ensures.items c.in_ok-current.ensures.value c.in_ok-opened.ensures.value;
+  mended = begins (option_copied c.args.file) c.args.script.now c.args.start.now c.new-found.result.items c.in_ok-current.current c.in_ok-opened.opened c.new-found.ensures.items c.in_ok-current.ensures.value c.in_ok-opened.ensures.value;
   allowed = subst IsAllowed (sym c.in_ok-opened.ensures.value) (record { ordered = c.requires.ordered; low = c.requires.low; high = c.requires.high });
   count = begins-count c.new-found.result.items c.new-found.ensures.items;
 }
 
 pub returns-in_default-clause-each : goal.returns-in_default-clause-each
 returns-in_default-clause-each c =
-    ends c.args.script.now c.args.start.now c.turns.found.items c.turns.current c.as_slice.result.now c.turns.opened c.turns.invariant.mended c.as_slice.ensures.value
+    ends (option_copied c.args.file) c.args.script.now c.args.start.now c.turns.found.items c.turns.current c.as_slice.result.now c.turns.opened c.turns.invariant.mended c.as_slice.ensures.value
     (rw c.in_default.is at c.in_ok-refusal.ensures.exact)
 
 pub returns-in_default-clause-none : goal.returns-in_default-clause-none
-returns-in_default-clause-none c = none-told c.args.script.now c.args.start.now c.turns.found.items (returns-in_default-clause-each c)
+returns-in_default-clause-none c = none-told (option_copied c.args.file) c.args.script.now c.args.start.now c.turns.found.items (returns-in_default-clause-each c)
 
 pub returns-in-None-clause-each : goal.returns-in-None-clause-each
 returns-in-None-clause-each c =
     let found = rw c.in-Some.is at c.in_ok-refusal.ensures.exact in
-    stops c.args.script.now c.args.start.now c.turns.found.items c.push.new.self.items c.turns.current c.turns.opened c.in-Some.refusal c.turns.invariant.mended
+    stops (option_copied c.args.file) c.args.script.now c.args.start.now c.turns.found.items c.push.new.self.items c.turns.current c.turns.opened c.in-Some.refusal c.turns.invariant.mended
     found.0 (found.1 ∙ c.as_slice.ensures.value) found.2 (rw c.in-None.is at c.in_ok-mended.ensures.value) c.in_ok-push-in-None.ensures.items
 
 pub turns-preserved : goal.turns-preserved
@@ -31,9 +32,9 @@ turns-preserved c =
     let kept = rw c.in-Some-2.is at c.in_ok-mended.ensures.value in
     record {
       mended =
-          goes-on c.args.script.now c.args.start.now c.turns.found.items c.push-in-Some-2.new.self.items c.turns.current c.in-Some-2.mended c.turns.opened c.in-Some-2.bounded c.in-Some.refusal kept.0 kept.1
+          goes-on (option_copied c.args.file) c.args.script.now c.args.start.now c.turns.found.items c.push-in-Some-2.new.self.items c.turns.current c.in-Some-2.mended c.turns.opened c.in-Some-2.bounded c.in-Some.refusal kept.0 kept.1
           c.turns.invariant.mended found.0 (found.1 ∙ c.as_slice.ensures.value) found.2 kept.2 c.in_ok-push-in-Some-2.ensures.items kept.3 kept.4;
-      allowed = stays-allowed c.in-Some.refusal kept.0 kept.1 c.in-Some-2.bounded found.0 kept.2 kept.4;
+      allowed = stays-allowed (option_copied c.args.file) c.in-Some.refusal kept.0 kept.1 c.in-Some-2.bounded found.0 kept.2 kept.4;
       count = goes-on-count c.turns.found.items c.push-in-Some-2.new.self.items c.in-Some.refusal c.turns.turn c.in_ok-push-in-Some-2.ensures.items c.turns.invariant.count;
     }
 
@@ -43,4 +44,4 @@ returns-clause-each c =
     cut c.turns.found.items c.turns.current c.turns.opened c.turns.invariant.mended many
 
 pub returns-clause-none : goal.returns-clause-none
-returns-clause-none c = none-told c.args.script.now c.args.start.now c.turns.found.items (returns-clause-each c)
+returns-clause-none c = none-told (option_copied c.args.file) c.args.script.now c.args.start.now c.turns.found.items (returns-clause-each c)

@@ -1,9 +1,10 @@
+use Rattle.std.specs.Option.{option_copied}
 use Rattle.ed_syntax.specs.PublicScript.{script_value}
 use Rattle.ed_syntax.specs.reading.Reading.{script_of}
 use Rattle.cert_check.specs.Certificates.{certificate_value}
 use Rattle.hints.proofs.Places.{vouched-as}
 use Rattle.hints.proofs.Chains.{refused-as}
-use Rattle.hints.proofs.refusing.first_refusal.Goals as goal
+use Rattle.hints.proofs.refusing.refusal_of.Goals as goal
 
 pub returns-in-Vouched : goal.returns-in-Vouched
 returns-in-Vouched c = record {
@@ -12,10 +13,10 @@ returns-in-Vouched c = record {
       c.in_ok-read.ensures.value c.in_ok-copy_of.ensures.value (rw c.in-Vouched.is at c.in_ok-analyse.ensures.exact);
 }
 
-pub returns : goal.returns
-returns c = record {
+pub returns-in_ok-copy_of-in-Cannot : goal.returns-in_ok-copy_of-in-Cannot
+returns-in_ok-copy_of-in-Cannot c = record {
   exact =
-      refused-as _ c.args.script.now c.args.start.now (script_value c.in_ok-read.read) c.in_ok-copy_of.field-0 c.in_ok-read.ensures.value c.in_ok-copy_of.ensures.value
+      refused-as (option_copied c.args.file) _ c.args.script.now c.args.start.now (script_value c.in_ok-read.read) c.in_ok-copy_of.field-0 c.in_ok-read.ensures.value c.in_ok-copy_of.ensures.value
       c.in_ok-from_slice-in-Cannot.ensures.value c.in_ok-copy_of-in-Cannot.ensures.value (rw c.in-Cannot.is at c.in_ok-analyse.ensures.exact) c.in_ok-hints-in-Cannot.ensures.tried
-      c.in_ok-hints-in-Cannot.ensures.asks (rw c.as_slice.ensures.value at c.in_ok-hints-in-Cannot.ensures.states);
+      c.in_ok-hints-in-Cannot.ensures.suited c.in_ok-hints-in-Cannot.ensures.asks (rw c.as_slice.ensures.value at c.in_ok-hints-in-Cannot.ensures.states);
 }
