@@ -3,7 +3,7 @@ ghost use Rattle.std.specs.Prelude.{IfOk, IfSome};
 ghost use Rattle.ed_calls.specs.Starts.{AreAllowed};
 
 use crate::asserting::same;
-use crate::calling::{ABC, Came, Case, ON_F, OUTSIDE, bytes_of, files_of, options_of, output};
+use crate::calling::{ABC, Came, Case, ON_F, bytes_of, files_of, options_of, output};
 use crate::vouching::set_of;
 use ed_calls::{Aside, Starts, edit_vouched, vouch_text};
 use ed_session::MemFiles;
@@ -128,8 +128,7 @@ const DONE: Row = Row {
 };
 
 const STRANGE: Row = Row {
-    status: 4,
-    output: OUTSIDE,
+    status: 5,
     after: ABC,
     ..DONE
 };
@@ -147,7 +146,7 @@ const NO_FILE: Part = Part {
 };
 
 #[rattlefmt::skip]
-static ROWS: [Row; 15] = [
+static ROWS: [Row; 16] = [
     DONE,
     Row { script: b"/^b/d\nw\nq\n", after: Some(b"a\nc\n"), ..DONE },
     Row { case: Case { silent: false, ..ON_F }, output: b"6\n4\n", ..DONE },
@@ -159,6 +158,7 @@ static ROWS: [Row; 15] = [
     Row { case: Case { start: None, ..ON_F }, ..STRANGE },
     Row { script: b"1d\nw\ns/x/y/\nw\nq\n", output: b"cannot: command 3: no match\n", ..REFUSED },
     Row { script: b"1d\nw\nw \xff\nq\n", output: b"cannot: command 3: file refused\n", ..REFUSED },
+    Row { script: b"f \xff\n1d\nw F\nq\nw \xff\n", output: b"\xff\n", after: Some(b"b\nc\n"), ..DONE },
     Row { script: b"1d\nw\nw !x\n", output: b"cannot: command 3: invalid command\n", ..REFUSED },
     Row { script: b"1d\nw\n2d\n", output: b"cannot: command 4: buffer modified\n", ..REFUSED },
     Row { case: Case { refused_call: 1, ..ON_F }, status: 3, output: b"?\n", after: ABC, ..DONE },

@@ -3,7 +3,7 @@ ghost use Rattle.std.specs.Prelude.{IfOk, IfSome};
 ghost use Rattle.ed_calls.specs.Starts.{AreAllowed};
 
 use crate::asserting::same;
-use crate::calling::{ABC, Came, ON_F, OUTSIDE, files_of, options_of, output};
+use crate::calling::{ABC, Came, ON_F, files_of, options_of, output};
 use ed_base::{Bytes, count_lines};
 use ed_calls::{Aside, Starts, edit_vouched, vouch_text};
 use ed_session::MemFiles;
@@ -45,7 +45,7 @@ const DELETED: Told = Told {
     patterns: false,
     file: b"a\nb\nc\n",
     status: 0,
-    begins: b"ed-certificate 1\npath =F\nstart 1 any\nnote\n",
+    begins: b"ed-certificate 1\npath =F\nstart 3 3\nnote\n",
 };
 
 /// The lines from one that begins with `a` to one below it that begins with `c`.
@@ -123,11 +123,11 @@ const DONE: Row = Row {
 static ROWS: [Row; 7] = [
     DONE,
     Row { script: b"/^b/d\nw\nq\n", file: b"b\n", ..DONE },
-    Row { file: b"x\ny\n", status: 4, output: OUTSIDE, after: ABC, ..DONE },
+    Row { file: b"x\ny\n", status: 5, after: ABC, ..DONE },
     Row { script: b"/^b/d\nw\nq\n", status: 1, output: b"cannot: command 1: no match\n", after: ABC, ..DONE },
     Row { script: BLOCK, file: b"x\na\nc\n", after: Some(b""), ..DONE },
     Row { script: SECOND, file: b"b\nb\nb\n", after: Some(b"a\nx\nc\n"), ..DONE },
-    Row { script: SECOND, file: b"b\nb\n", status: 4, output: OUTSIDE, after: ABC, ..DONE },
+    Row { script: SECOND, file: b"b\nb\n", status: 5, after: ABC, ..DONE },
 ];
 
 /// What comes of the row over these files; None where its file has too many lines.

@@ -29,7 +29,7 @@ const FIRST: Row = Row {
 };
 
 #[rattlefmt::skip]
-static ROWS: [Row; 7] = [
+static ROWS: [Row; 10] = [
     FIRST,
     Row {
         part: Part { min: Some(0), ..F_ALONE },
@@ -52,9 +52,11 @@ static ROWS: [Row; 7] = [
         script: b"$d\n",
         part: SOME,
         person: "error: the script ends after line 1, command 1: `$d`: buffer modified: there may be changes that no w has written\n\
-                 hint: write first (w)\n",
+                 hint: write first (w)\n\
+                 note: line 1: the script changes lines, and writes them neither to a file nor to standard output: `w` writes the file\n",
         tools: "a.ed:1: cannot: buffer modified: the script ends after line 1, command 1: `$d`: there may be changes that no w has written\n\
-                a.ed:1: hint: write first (w)\n",
+                a.ed:1: hint: write first (w)\n\
+                a.ed:1: note: the script changes lines, and writes them neither to a file nor to standard output: `w` writes the file\n",
         ..FIRST
     },
     Row {
@@ -64,6 +66,37 @@ static ROWS: [Row; 7] = [
                  hint: POSIX has no `\\+`: write `\\{1,\\}`\n",
         tools: "a.ed:1: cannot: invalid command: command 1: `g/a\\+/s//b/`: the pattern has a backslash that means nothing where it stands\n\
                 a.ed:1: hint: POSIX has no `\\+`: write `\\{1,\\}`\n",
+        ..FIRST
+    },
+    // That a script can't be read to its end comes first.
+    Row {
+        script: b"3p\nwq\n",
+        part: SOME,
+        person: "error: line 2, command 2: `wq`: invalid command\n\
+                 hint: POSIX has no `wq`: write `w` and `q` on two lines\n\
+                 error: line 1, command 1: `3p`: invalid address: the file may have as few as 1 line\n\
+                 known: at least 1 line, the current line at least 1\n\
+                 hint: gets further with --min 3\n",
+        tools: "a.ed:2: cannot: invalid command: command 2: `wq`\n\
+                a.ed:2: hint: POSIX has no `wq`: write `w` and `q` on two lines\n\
+                a.ed:1: cannot: invalid address: command 1: `3p`: the file may have as few as 1 line\n\
+                a.ed:1: known: at least 1 line, the current line at least 1\n\
+                a.ed:1: hint: gets further with --min 3\n",
+        ..FIRST
+    },
+    // What can't be seen is escaped: a byte-order mark here, and then a mark that turns what follows.
+    Row {
+        script: b"\xef\xbb\xbf1d\nw\nq\n",
+        person: "error: line 1, command 1: `\\xef\\xbb\\xbf1d`: invalid command\n\
+                 hint: a byte-order mark stands before the first command: leave it out\n",
+        tools: "a.ed:1: cannot: invalid command: command 1: `\\xef\\xbb\\xbf1d`\n\
+                a.ed:1: hint: a byte-order mark stands before the first command: leave it out\n",
+        ..FIRST
+    },
+    Row {
+        script: b"w \xe2\x80\xae\xff\n",
+        person: "error: line 1, command 1: `w \\xe2\\x80\\xae\\xff`: file refused: the name of its file isn't UTF-8\n",
+        tools: "a.ed:1: cannot: file refused: command 1: `w \\xe2\\x80\\xae\\xff`: the name of its file isn't UTF-8\n",
         ..FIRST
     },
     Row {
@@ -112,10 +145,13 @@ struct Stopped {
 }
 
 #[rattlefmt::skip]
-static STOPPED: [Stopped; 4] = [
+static STOPPED: [Stopped; 7] = [
     Stopped { script: b"1p\n9p\nw\nq\n", person: "error: line 2: `9p`: invalid address\n" },
     Stopped { script: b"2d\n,p\n", person: "error: the script ends after line 2: `,p`: buffer modified\n" },
     Stopped { script: b"g/./p\\\n+1p\n", person: "error: line 2: `+1p`: in the list of `g/./p\\`: invalid address\n" },
+    Stopped { script: b"1p\nwq\n", person: "error: line 2: `wq`: invalid command\nhint: POSIX has no `wq`: write `w` and `q` on two lines\n" },
+    Stopped { script: b"# a\n1p\nQ\n", person: "error: line 1: `# a`: invalid command\nhint: POSIX has no `#`: leave the line out\n" },
+    Stopped { script: b"1d\xc2\xa0\nQ\n", person: "error: line 1: `1d\\xc2\\xa0`: invalid command\n" },
     Stopped { script: b"1p\nQ\n", person: "" },
 ];
 

@@ -72,7 +72,7 @@ struct Row {
 }
 
 #[rattlefmt::skip]
-static CANNOT: [Row; 12] = [
+static CANNOT: [Row; 15] = [
     Row { script: DELETING, min: 0, max: Some(3), output: b"cannot: command 1: invalid address\n" },
     Row { script: b"2ka\n1,2d\n'ap\nQ\n", min: 2, max: None, output: b"cannot: command 3: mark not set\n" },
     Row { script: b"s/x/y/\nw\nq\n", min: 1, max: None, output: b"cannot: command 1: no match\n" },
@@ -83,8 +83,11 @@ static CANNOT: [Row; 12] = [
     Row { script: b"/x*/,p\nQ\n", min: 1, max: None, output: b"cannot: command 1: invalid address\n" },
     Row { script: b"w !x\n", min: 1, max: None, output: b"cannot: command 1: invalid command\n" },
     Row { script: b"1p\nw \xff\nq\n", min: 1, max: None, output: b"cannot: command 2: file refused\n" },
-    Row { script: b"g/x/w \xff\nq\n", min: 1, max: None, output: b"cannot: command 1: file refused\n" },
-    Row { script: b"1d\nw \xff\nq\n", min: 0, max: None, output: b"cannot: command 2: file refused\n" },
+    Row { script: b"g/x/w \xff\nq\n", min: 1, max: None, output: b"cannot: command 1.1: file refused\n" },
+    Row { script: b"g/x/p\\\n-1p\\\nw \xff\nq\n", min: 1, max: None, output: b"cannot: command 1.2: invalid address\n" },
+    Row { script: b"1d\nw \xff\nq\n", min: 0, max: None, output: b"cannot: command 1: invalid address\n" },
+    Row { script: b"f \xff\n1p\nw\nq\n", min: 1, max: None, output: b"cannot: command 3: file refused\n" },
+    Row { script: b"g/x/f \xff\nr\nq\n", min: 1, max: None, output: b"cannot: command 2: file refused\n" },
 ];
 
 fn check_cannot(rt: &impl Abort, alloc: Global, row: &Row, all: bool) {

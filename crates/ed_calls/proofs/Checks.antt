@@ -71,10 +71,6 @@ counted_refusal answer.Missing before failed counted other h = absurd (let e = h
 counted_refusal answer.Refused before failed counted other h = counted refl
 counted_refusal answer.Done before failed counted other h = absurd (other refl)
 
-pub not_both : (c : Certificate) (lines : Option (List (List ℕ))) → LiesOutside c lines → IfSome lines (IsAllowed c) → ⊥
-not_both c None outside inside = outside
-not_both c (Some lines) outside inside = outside inside
-
 module _ (P : Request → Type 0) where
   -- what was asked before memory ran out was asked in the whole run
   asked_of_cut : (steps bytes : ℕ) (p : Progress) → All P (asked_of p) → All P (asked_of (cut steps bytes p))

@@ -1,11 +1,9 @@
 -- The lines that explain commands, one further.
-use Rattle.std.proofs.Common.{◌≡◌, ◌≢◌, ◌∙◌, ◌+◌, ◌-◌, ◌<◌, ◌≤◌, ℕ, List, [], ◌∷◌, ◌++◌, length, take, drop, map, get_or, Bool, true, false, refl, sym, ap, subst, arith, append-nil, append_assoc}
+use Rattle.std.proofs.Common.{◌≡◌, ◌≢◌, ◌∙◌, ◌+◌, ◌-◌, ◌<◌, ◌≤◌, ℕ, List, [], ◌∷◌, ◌++◌, length, take, drop, get_or, Bool, true, false, refl, sym, ap, subst, arith, append-nil, append_assoc}
 use Rattle.std.specs.Prelude.{All, nat_eq}
 use Rattle.std.proofs.lemmas.List.{drop_all, drop-take, drop_more, length-take-le}
 use Rattle.std.proofs.lemmas.List.Elements.{All-nil, All-cons}
 use Rattle.ed_base.specs.Lines.{newline}
-use Rattle.ed_syntax.specs.declared.spans.Span.{Span}
-use Rattle.cert_check.specs.declared.checker.verdict.Place.{Place}
 use Rattle.ed_calls.specs.declared.explaining.commands.Explained.{Explained}
 use Rattle.ed_calls.specs.Explaining.{Woven, none, more, last_three, line_with, on_one_line}
 
@@ -30,24 +28,20 @@ last-of-front xs front n k within is e =
 at-place : (xs : List Explained) (i : ℕ) (x : Explained) → i < length xs → x ≡ get_or xs i x → drop i xs ≡ x ∷ drop (i + 1) xs
 at-place xs i x inside is = drop_more xs i x inside ∙ ap (λ y. y ∷ drop (i + 1) xs) (sym is)
 
-abbrev places_of : List Explained → List Place
-places_of commands = map (λ one. one.place) commands
-
-module _ (spans : List Span) (commands : List Explained) (all : List Place) where
+module _ (commands all : List Explained) where
   -- with the lines of the commands from one on, a text has the lines of all
   abbrev Before : (i : ℕ) (text : List ℕ) → Type 0
-  Before i text = (rest : List ℕ) → Woven spans (places_of (drop i commands)) rest → Woven spans all (text ++ rest)
+  Before i text = (rest : List ℕ) → Woven (drop i commands) rest → Woven all (text ++ rest)
 
-  pub woven-on : (i : ℕ) (x : Explained) (text new words : List ℕ) → i < length commands → x ≡ get_or commands i x →
-      new ≡ text ++ line_with spans x.place (on_one_line words) → Before i text → Before (i + 1) new
-  woven-on i x text new words inside is added before = λ rest woven.
-      let line = line_with spans x.place (on_one_line words) in
-      let left : Woven spans (places_of (x ∷ drop (i + 1) commands)) (line ++ rest) =
-      more x.place (on_one_line words) (places_of (drop (i + 1) commands)) rest (on-one-line words) woven in
-      subst (λ t. Woven spans all t) (sym (ap (λ t. t ++ rest) added ∙ append_assoc text line rest))
-      (before (line ++ rest) (subst (λ (cs : List Explained). Woven spans (places_of cs) (line ++ rest)) (sym (at-place commands i x inside is)) left))
+  pub woven-on : (i : ℕ) (x : Explained) (line : ℕ) (text new words : List ℕ) → i < length commands → x ≡ get_or commands i x →
+      new ≡ text ++ line_with line x.place.inner (on_one_line words) → Before i text → Before (i + 1) new
+  woven-on i x line text new words inside is added before = λ rest woven.
+      let its = line_with line x.place.inner (on_one_line words) in
+      let left : Woven (x ∷ drop (i + 1) commands) (its ++ rest) = more x line (on_one_line words) (drop (i + 1) commands) rest (on-one-line words) woven in
+      subst (λ t. Woven all t) (sym (ap (λ t. t ++ rest) added ∙ append_assoc text its rest))
+      (before (its ++ rest) (subst (λ (cs : List Explained). Woven cs (its ++ rest)) (sym (at-place commands i x inside is)) left))
 
-  pub woven-end : (i : ℕ) (text : List ℕ) → length commands ≤ i → Before i text → Woven spans all text
+  pub woven-end : (i : ℕ) (text : List ℕ) → length commands ≤ i → Before i text → Woven all text
   woven-end i text over before =
-      subst (λ t. Woven spans all t) (append-nil text)
-      (before [] (subst (λ (cs : List Explained). Woven spans (places_of cs) []) (sym (drop_all i commands over)) none))
+      subst (λ t. Woven all t) (append-nil text)
+      (before [] (subst (λ (cs : List Explained). Woven cs []) (sym (drop_all i commands over)) none))

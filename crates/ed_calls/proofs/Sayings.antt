@@ -25,6 +25,8 @@ use Rattle.analyser.specs.declared.analysis.Analysis.{Analysis}
 use Rattle.analyser.specs.declared.analysis.Analysis.TheVariants.{Vouched, Cannot}
 use Rattle.ed_calls.specs.declared.running.Ran.{Ran}
 use Rattle.ed_calls.specs.declared.running.Ran.TheVariants as ran
+use Rattle.ed_calls.specs.declared.told.Origin.{Origin}
+use Rattle.ed_calls.specs.declared.told.Origin.TheVariants.{Given, Made}
 use Rattle.ed_calls.specs.declared.told.Told.{Told}
 use Rattle.ed_calls.specs.Check as check
 use Rattle.ed_calls.specs.Check.{Checks}
@@ -32,9 +34,9 @@ use Rattle.ed_calls.specs.Headline.{Headline}
 use Rattle.ed_calls.specs.Run as run
 use Rattle.ed_calls.specs.Run.{CheckedRun, Runs, RunsBy, ran_told}
 use Rattle.ed_calls.specs.Told as telling
-use Rattle.ed_calls.specs.Told.{IsUnread, Says, Tells, verdict_told, cannot_told}
+use Rattle.ed_calls.specs.Told.{IsUnread, Says, Tells, verdict_told, cannot_told, outside_of}
 use Rattle.ed_calls.specs.Names.{first_unusable}
-use Rattle.ed_calls.specs.Finding.{IsJudged}
+use Rattle.ed_calls.specs.Finding.{IsJudged, IsUnusable}
 use Rattle.ed_calls.specs.Starts.{IsJudgedFor}
 use Rattle.ed_calls.specs.Vouch.{IsAnswerFor, IsToldOf, Vouches, answered, unusable}
 use Rattle.ed_calls.specs.Vouched.{IsRefused}
@@ -89,44 +91,12 @@ checks_few : (script certificate : List ℕ) (told : Told) → Checks script cer
 checks_few script certificate told (check.verdict s c spelled text is) = told_few told _ is (verdict_few _)
 checks_few script certificate told (check.no_certificate h) = unread_few certificate told h
 
-answer_few : (answer : Analysis) (told : Told) → IsToldOf answer told → told.status ≤ 4
-answer_few (Vouched c) told is = rw is.1 (omega arith)
-answer_few (Cannot place why notes) told is = told_few told _ is (omega arith)
-
-vouched_few : (script : List ℕ) (starts : Starts) (told : Told) → Vouches script starts told → told.status ≤ 4
-vouched_few script starts told (answered start answer usable judged is told_so) = answer_few answer told told_so
-vouched_few script starts told (unusable number named is) = told_few told _ is (omega arith)
-
--- the statuses of what is told
+-- the status of what is told of a certificate
 pub check_status : (script certificate : List ℕ) (sink : SinkChange) (status : ℕ) → Says (Checks script certificate) sink status → status ≤ 4
 check_status script certificate sink status says = says_few (Checks script certificate) sink status (checks_few script certificate) says
 
-pub vouch_status : (script : List ℕ) (starts : Starts) (sink : SinkChange) (status : ℕ) → Says (Vouches script starts) sink status → status ≤ 4
-vouch_status script starts sink status says = says_few (Vouches script starts) sink status (vouched_few script starts) says
-
-refused_few : (script : List ℕ) (starts : Starts) (told : Told) → IsRefused script starts told → told.status ≤ 4
-refused_few script starts told refused = rw refused.status (omega arith)
-
-pub refusal_status : (script : List ℕ) (starts : Starts) (sink : SinkChange) (status : ℕ) → Says (IsRefused script starts) sink status → status ≤ 4
-refusal_status script starts sink status says = says_few (IsRefused script starts) sink status (refused_few script starts) says
-
 pub unread_status : (bytes : List ℕ) (sink : SinkChange) (status : ℕ) → Says (IsUnread bytes) sink status → status ≤ 4
 unread_status bytes sink status says = says_few (IsUnread bytes) sink status (unread_few bytes) says
-
-fault_few : (f : Fault) → status_of f ≤ 4
-fault_few fault.Memory = omega arith
-fault_few fault.File = omega arith
-fault_few fault.Output = omega arith
-fault_few other = omega arith
-
-ran_few : (result : Result Ran Fault) → (ran_told result).status ≤ 4
-ran_few (Ok (ran.Refused place)) = omega arith
-ran_few (Ok ran.StartOutside) = omega arith
-ran_few (Ok (ran.Done ending)) = omega arith
-ran_few (Err f) = fault_few f
-
-pub ran_status : (result : Result Ran Fault) (sink : SinkChange) (status : ℕ) → Tells (ran_told result) sink status → status ≤ 4
-ran_status result sink status told = tells_few (ran_told result) sink status (ran_few result) told
 
 -- A RUN THAT IS CHECKED FIRST
 
@@ -136,34 +106,34 @@ headline_ok s c o log one other (ran.Refused place) h = h
 headline_ok s c o log one other ran.StartOutside h = h
 headline_ok s c o log one other (ran.Done ending) h = h
 
-module _ (s : Script) (c : Certificate) (o : Options) (log : Log) (before between : SinkState) (result : Result Ran Fault)
+module _ (origin : Origin) (s : Script) (c : Certificate) (o : Options) (log : Log) (before between : SinkState) (result : Result Ran Fault)
     (came : CheckedRun s c o log (change before between) result) where
-  by_of : (may_fail : Fault → Type 0) (after : SinkState) (status : ℕ) → Headline s c o log may_fail result → Tells (ran_told result) (change between after) status
-      → RunsBy s c o log may_fail (change before after) status
+  by_of : (may_fail : Fault → Type 0) (after : SinkState) (status : ℕ) → Headline s c o log may_fail result → Tells (ran_told origin result) (change between after) status
+      → RunsBy origin s c o log may_fail (change before after) status
   by_of may_fail after status headline told = record { result = result; between = between; came = came; headline = headline; told = told }
 
   -- what came of it was told
   pub runs_told : (one other : Fault → Type 0) (r : Ran) (made : Result Told AllocError) (after : SinkState) (status : ℕ) → result ≡ Ok r → Headline s c o log one result
-      → (ran_told (Ok r)).output ≢ [] → IfOk made (λ told. told ≡ ran_told (Ok r)) → Says (λ t. made ≡ Ok t) (change between after) status
-      → RunsBy s c o log other (change before after) status
+      → (ran_told origin (Ok r)).output ≢ [] → IfOk made (λ told. told ≡ ran_told origin (Ok r)) → Says (λ t. made ≡ Ok t) (change between after) status
+      → RunsBy origin s c o log other (change before after) status
   runs_told one other r made after status is headline some told says =
       by_of other after status
       (subst (λ x. Headline s c o log other x) (sym is) (headline_ok s c o log one other r (subst (λ x. Headline s c o log one x) is headline)))
-      (subst (λ x. Tells (ran_told x) (change between after) status) (sym is) (tells_only (ran_told (Ok r)) made (change between after) status some told says))
+      (subst (λ x. Tells (ran_told origin x) (change between after) status) (sym is) (tells_only (ran_told origin (Ok r)) made (change between after) status some told says))
 
   -- it was run to its end, of which no more is told
-  pub runs_ended : (may_fail : Fault → Type 0) (status : ℕ) (end : Result Ran Fault) → result ≡ end → Headline s c o log may_fail result → (ran_told end).output ≡ [] → status ≡ (ran_told end).status
-      → RunsBy s c o log may_fail (change before between) status
+  pub runs_ended : (may_fail : Fault → Type 0) (status : ℕ) (end : Result Ran Fault) → result ≡ end → Headline s c o log may_fail result → (ran_told origin end).output ≡ [] → status ≡ (ran_told origin end).status
+      → RunsBy origin s c o log may_fail (change before between) status
   runs_ended may_fail status end is headline none ends =
       by_of may_fail between status headline
-      (subst (λ x. Tells (ran_told x) (change between between) status) (sym is) (telling.all (subst (Took (change between between)) (sym none) (none_taken between.taken)) ends))
+      (subst (λ x. Tells (ran_told origin x) (change between between) status) (sym is) (telling.all (subst (Took (change between between)) (sym none) (none_taken between.taken)) ends))
 
 -- the script that was run is the one that the bytes spell
 pub runs_of : (spells : SpellsWhatIsRead script_of) (bytes certificate : List ℕ) (s : Script) (c : Certificate) (o : Options) (log : Log)
-    (may_fail : Fault → Type 0) (sink : SinkChange) (status : ℕ) → s ≡ script_of bytes → IsText certificate c → RunsBy s c o log may_fail sink status
+    (may_fail : Fault → Type 0) (sink : SinkChange) (status : ℕ) → s ≡ script_of bytes → IsText certificate c → RunsBy Given s c o log may_fail sink status
     → Runs bytes certificate o log may_fail sink status
 runs_of spells bytes certificate s c o log may_fail sink status read text by =
-    run.checked (script_of bytes) c (spells bytes) text (subst (λ s. RunsBy s c o log may_fail sink status) read by)
+    run.checked (script_of bytes) c (spells bytes) text (subst (λ s. RunsBy Given s c o log may_fail sink status) read by)
 
 -- the text of the certificate that vouches was taken
 pub says_vouched : (answer : Analysis) (c : public.Certificate) (sink : SinkChange) → answer ≡ Vouched c → HasTextIfVouched answer
@@ -188,10 +158,10 @@ says_cannot answer place why notes made sink status is told says = rw is (says_o
 
 -- the analyser's answer was told
 pub vouches_of : (script : List ℕ) (starts : Starts) (start : Start) (answer : Analysis) (sink : SinkChange) (status : ℕ) →
-    first_unusable (script_of script) ≡ None → IsJudgedFor script starts start → IsAnswerFor script start answer →
+    IsJudgedFor script starts start → IsAnswerFor script start answer → first_unusable (script_of script) start answer ≡ None →
     Says (IsToldOf answer) sink status → Says (Vouches script starts) sink status
-vouches_of script starts start answer sink status usable judged is says =
-    says_more (IsToldOf answer) (Vouches script starts) sink status (λ t told_so. answered start answer usable judged is told_so) says
+vouches_of script starts start answer sink status judged is usable says =
+    says_more (IsToldOf answer) (Vouches script starts) sink status (λ t told_so. answered start answer judged is usable told_so) says
 
 -- what tells that it isn't vouched for is what `vouch` tells
 refusal_vouches : (script : List ℕ) (starts : Starts) (told : Told) → IsRefused script starts told → Vouches script starts told
@@ -209,14 +179,14 @@ pub refused_of : (script : List ℕ) (starts : Starts) (one : Judged) → IsJudg
 refused_of script starts one found place why notes made sink status cannot told says =
     says_more (λ t. t ≡ cannot_told place why) (IsRefused script starts) sink status (λ t told_so.
     let so : IsToldOf one.analysis t = rw cannot told_so in
-    record { vouches = answered one.start one.analysis found.usable found.start found.answer so; status = rw told_so refl })
+    record { vouches = answered one.start one.analysis found.start found.answer found.usable so; status = rw told_so refl })
     (says_of (λ t. t ≡ cannot_told place why) made sink status told says)
 
--- or the command that names a file by what isn't UTF-8
-pub names_told : (script : List ℕ) (starts : Starts) (number : ℕ) (made : Result Told AllocError) (sink : SinkChange) (status : ℕ) →
-    first_unusable (script_of script) ≡ Some number → IfOk made (λ told. told ≡ cannot_told (record { command = number; inner = None }) fault.File) →
+-- or the command that asks for a file by what isn't UTF-8
+pub names_told : (script : List ℕ) (starts : Starts) (place : Place) (made : Result Told AllocError) (sink : SinkChange) (status : ℕ) →
+    IsUnusable script starts place → IfOk made (λ told. told ≡ cannot_told place fault.File) →
     Says (λ one. made ≡ Ok one) sink status → Says (IsRefused script starts) sink status
-names_told script starts number made sink status named told says =
-    says_more (λ t. t ≡ cannot_told (record { command = number; inner = None }) fault.File) (IsRefused script starts) sink status
-    (λ t is. record { vouches = unusable number named is; status = rw is refl })
-    (says_of (λ t. t ≡ cannot_told (record { command = number; inner = None }) fault.File) made sink status told says)
+names_told script starts place made sink status found told says =
+    says_more (λ t. t ≡ cannot_told place fault.File) (IsRefused script starts) sink status
+    (λ t is. record { vouches = unusable found.start found.answer place found.over found.exact found.named is; status = rw is refl })
+    (says_of (λ t. t ≡ cannot_told place fault.File) made sink status told says)

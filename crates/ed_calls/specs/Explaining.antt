@@ -1,15 +1,13 @@
 -- The commands of a script with what is known before each, and the lines that tell it (our choice of the lines).
-use Rattle.std.specs.Prelude.{◌≢◌, ℕ, suc, ◌-◌, Bool, true, false, not, ◌||◌, ◌&&◌, List, [], ◌∷◌, ◌++◌, length, drop, All, Option, Some, None, nat_lt, nat_eq, codes, decimal, slice_get}
+use Rattle.std.specs.Prelude.{◌≢◌, ℕ, suc, ◌-◌, true, false, not, List, [], ◌∷◌, ◌++◌, length, drop, All, Option, Some, None, nat_eq, codes, decimal}
 use Rattle.std.specs.List.{filter}
 use Rattle.ed_base.specs.Lines.{newline}
-use Rattle.ed_syntax.specs.declared.spans.Span.{Span}
-use Rattle.ed_syntax.specs.Places.{AreSpans}
-use Rattle.ed_syntax.specs.reading.Reading.{script_of}
 use Rattle.cert_check.specs.declared.checker.verdict.Place.{Place}
 use Rattle.cert_check.specs.Certificates.{Looped, Note}
 use Rattle.cert_check.specs.checker.Valid.{command_at, inner_at}
 use Rattle.ed_rules.specs.declared.state.State.{State}
 use Rattle.ed_calls.specs.Known.{known_of}
+use Rattle.ed_calls.specs.Places.{is_before}
 use Rattle.ed_calls.specs.declared.explaining.commands.Explained.{Explained}
 
 -- WHAT IS KNOWN BEFORE EACH COMMAND
@@ -40,17 +38,6 @@ explained notes = explained_from 0 notes
 
 -- THOSE BEFORE A PLACE
 
--- a command's list comes after it and before the next command
-abbrev pub comes_first : Option ℕ → Option ℕ → Bool
-comes_first None None = false
-comes_first None (Some inner) = true
-comes_first (Some one) None = false
-comes_first (Some one) (Some other) = nat_lt one other
-
-abbrev pub is_before : Place → Place → Bool
-is_before one other =
-    nat_lt one.command other.command || (nat_eq one.command other.command && comes_first one.inner other.inner)
-
 -- the commands up to a place, without that at the place
 abbrev pub up_to : Place → List Explained → List Explained
 up_to place [] = []
@@ -62,33 +49,19 @@ last_three xs = drop (length xs - 3) xs
 
 -- LINES
 
--- the number of the script's line on which a command begins
-abbrev pub line_at : List Span → (command : ℕ) → ℕ
-line_at spans command = elim (slice_get spans (command - 1)) [ None ↦ command | Some span ↦ span.line ]
-
 abbrev pub inner_text : Option ℕ → List ℕ
 inner_text None = []
 inner_text (Some inner) = codes "." ++ decimal inner
 
--- a command by that number; one of a list by its global command's, and by its own in the list
-abbrev pub label : List Span → Place → List ℕ
-label spans place = decimal (line_at spans place.command) ++ inner_text place.inner
+-- a line begins with the number of a line of the script, after which a command of a list has its number there; whatever words follow
+abbrev pub line_with : (line : ℕ) → (inner : Option ℕ) → (words : List ℕ) → List ℕ
+line_with line inner words = decimal line ++ inner_text inner ++ codes ": " ++ words ++ newline ∷ []
 
--- a line begins with a command's label, whatever words follow
-abbrev pub line_with : List Span → Place → (words : List ℕ) → List ℕ
-line_with spans place words = label spans place ++ codes ": " ++ words ++ newline ∷ []
-
--- a text is the lines of these places, in their order: one for each
-pub data Woven (spans : List Span) : List Place → (text : List ℕ) → Type 0 where
-  none : Woven spans [] []
-  more : (place : Place) (words : List ℕ) (places : List Place) (text : List ℕ) → All (λ byte. byte ≢ newline) words → Woven spans places text →
-      Woven spans (place ∷ places) (line_with spans place words ++ text)
-
--- so it is of the commands of a script, whose lines are numbered by where they stand in its bytes
-pub record IsWoven (script : List ℕ) (places : List Place) (text : List ℕ) : Type 0 where
-  pub spans : List Span
-  pub stand : AreSpans script 0 spans (script_of script)
-  pub woven : Woven spans places text
+-- a text is the lines of these commands, in their order: one for each
+pub data Woven : List Explained → (text : List ℕ) → Type 0 where
+  none : Woven [] []
+  more : (one : Explained) (line : ℕ) (words : List ℕ) (others : List Explained) (text : List ℕ) → All (λ byte. byte ≢ newline) words → Woven others text →
+      Woven (one ∷ others) (line_with line one.place.inner words ++ text)
 
 -- words without the newlines that they have
 abbrev pub on_one_line : List ℕ → List ℕ

@@ -14,36 +14,37 @@ use Rattle.analyser.specs.declared.analysis.Analysis.TheVariants.{Vouched, Canno
 use Rattle.ed_calls.specs.declared.explaining.commands.Explained.{Explained}
 use Rattle.ed_calls.specs.declared.starts.Starts.{Starts}
 use Rattle.ed_calls.specs.declared.told.Told.{Told}
-use Rattle.ed_calls.specs.Explaining.{IsWoven, explained, last_three, up_to}
+use Rattle.ed_calls.specs.Explaining.{Woven, explained, last_three, up_to}
 use Rattle.ed_calls.specs.Names.{first_unusable}
 use Rattle.ed_calls.specs.Starts.{IsJudgedFor}
 use Rattle.ed_calls.specs.Told.{IsUnread, verdict_told}
 use Rattle.ed_calls.specs.Vouch.{IsAnswerFor}
 
--- the lines of these commands of a script were told, and the status is this one
-pub record AreTold (script : List ℕ) (commands : List Explained) (status : ℕ) (told : Told) : Type 0 where
-  pub lines : IsWoven script (map (λ one. one.place) commands) told.output
+-- the lines of these commands were told, and the status is this one
+pub record AreTold (commands : List Explained) (status : ℕ) (told : Told) : Type 0 where
+  pub lines : Woven commands told.output
   pub ends : told.status ≡ status
 
 -- those of all counted commands, by what these notes say
-abbrev pub IsExplained : (script : List ℕ) → List Note → Told → Type 0
-IsExplained script notes told = AreTold script (explained notes) 0 told
+abbrev pub IsExplained : List Note → Told → Type 0
+IsExplained notes told = AreTold (explained notes) 0 told
 
 -- by the analyser's answer: those of all counted commands, or of the last three at most before the place of the need that fails
-abbrev pub IsExplainedBy : (script : List ℕ) → Analysis → Told → Type 0
-IsExplainedBy script (Vouched c) told = IsExplained script (certificate_value c).notes told
-IsExplainedBy script (Cannot place why notes) told = AreTold script (last_three (up_to place (explained (map note_value notes.items)))) 1 told
+abbrev pub IsExplainedBy : Analysis → Told → Type 0
+IsExplainedBy (Vouched c) told = IsExplained (certificate_value c).notes told
+IsExplainedBy (Cannot place why notes) told = AreTold (last_three (up_to place (explained (map note_value notes.items)))) 1 told
 
--- A script is explained by the analyser's answer over the start that it is judged over, which is as it is for `vouch`. Of one that names a file
--- by what isn't UTF-8 no line is told.
+-- A script is explained by the analyser's answer over the start that it is judged over, which is as it is for `vouch`. Where it is refused for a
+-- name that isn't UTF-8 no line is told.
 pub data Explains (script : List ℕ) (starts : Starts) (told : Told) : Type 0 where
-  answered : (start : Start) (answer : Analysis) → first_unusable (script_of script) ≡ None → IsJudgedFor script starts start →
-      IsAnswerFor script start answer → IsExplainedBy script answer told → Explains script starts told
-  unusable : (number : ℕ) → first_unusable (script_of script) ≡ Some number → told ≡ record { output = []; status = 1 } → Explains script starts told
+  answered : (start : Start) (answer : Analysis) → IsJudgedFor script starts start → IsAnswerFor script start answer →
+      first_unusable (script_of script) start answer ≡ None → IsExplainedBy answer told → Explains script starts told
+  unusable : (start : Start) (answer : Analysis) (place : Place) → IsJudgedFor script starts start → IsAnswerFor script start answer →
+      first_unusable (script_of script) start answer ≡ Some place → told ≡ record { output = []; status = 1 } → Explains script starts told
 
 -- It is explained by a certificate that the checker accepts for it. Else it is told why it isn't, as `check` tells that.
 pub data ExplainsBy (script certificate : List ℕ) (told : Told) : Type 0 where
-  accepted : (s : Script) (c : Certificate) → SpellsScript script s → IsText certificate c → judged s c ≡ Accepted → IsExplained script c.notes told →
+  accepted : (s : Script) (c : Certificate) → SpellsScript script s → IsText certificate c → judged s c ≡ Accepted → IsExplained c.notes told →
       ExplainsBy script certificate told
   refused : (s : Script) (c : Certificate) (place : Place) → SpellsScript script s → IsText certificate c → judged s c ≡ Refused place →
       told ≡ verdict_told (Refused place) → ExplainsBy script certificate told

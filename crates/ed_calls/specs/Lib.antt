@@ -3,6 +3,7 @@ pub mod Edit
 pub mod Headline
 pub mod Told
 pub mod Check
+pub mod Places
 pub mod Names
 pub mod Starts
 pub mod Landmarked

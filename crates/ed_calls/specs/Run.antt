@@ -21,10 +21,12 @@ use Rattle.cert_check.specs.checker.Sound.{IsAllowed, start_lines}
 use Rattle.cert_check.specs.checker.Valid.{judged}
 use Rattle.ed_calls.specs.declared.running.Ran.{Ran}
 use Rattle.ed_calls.specs.declared.running.Ran.TheVariants as ran
+use Rattle.ed_calls.specs.declared.told.Origin.{Origin}
+use Rattle.ed_calls.specs.declared.told.Origin.TheVariants.{Given}
 use Rattle.ed_calls.specs.declared.told.Told.{Told}
 use Rattle.ed_calls.specs.Edit.{ComesTo}
 use Rattle.ed_calls.specs.Headline.{Headline}
-use Rattle.ed_calls.specs.Told.{IsUnread, Says, Tells, outside_told, verdict_told}
+use Rattle.ed_calls.specs.Told.{IsUnread, Says, Tells, outside_of, verdict_told}
 
 -- what is asked for the start and answered: the file at its path is read once, if it has one
 abbrev pub reading : Option (List ℕ) → Answer → Log
@@ -73,23 +75,23 @@ pub data CheckedRun (script : Script) (c : Certificate) (o : Options) (log : Log
   no_memory : (log ≡ []) ⊎ (judged script c ≡ Accepted) × OnlyReads c o.path log →
       Untouched sink → result ≡ Err Memory → CheckedRun script c o log sink result
 
--- what is told of a checked run besides its own output
-abbrev pub ran_told : Result Ran Fault → Told
-ran_told (Ok (ran.Refused place)) = verdict_told (Refused place)
-ran_told (Ok ran.StartOutside) = outside_told
-ran_told (Ok (ran.Done ending)) = record { output = []; status = 0 }
-ran_told (Err f) = record { output = []; status = status_of f }
+-- what is told of a checked run besides its own output, by a certificate that comes from there
+abbrev pub ran_told : Origin → Result Ran Fault → Told
+ran_told origin (Ok (ran.Refused place)) = verdict_told (Refused place)
+ran_told origin (Ok ran.StartOutside) = outside_of origin
+ran_told origin (Ok (ran.Done ending)) = record { output = []; status = 0 }
+ran_told origin (Err f) = record { output = []; status = status_of f }
 
 -- a script was run where its certificate allows that, and what came of it was told
-pub record RunsBy (script : Script) (c : Certificate) (o : Options) (log : Log) (may_fail : Fault → Type 0) (sink : SinkChange) (status : ℕ) : Type 0 where
+pub record RunsBy (origin : Origin) (script : Script) (c : Certificate) (o : Options) (log : Log) (may_fail : Fault → Type 0) (sink : SinkChange) (status : ℕ) : Type 0 where
   pub result : Result Ran Fault
   pub between : SinkState
   pub came : CheckedRun script c o log (change sink.before between) result
   pub headline : Headline script c o log may_fail result
-  pub told : Tells (ran_told result) (change between sink.after) status
+  pub told : Tells (ran_told origin result) (change between sink.after) status
 
 -- `run`: there is no certificate, or the script that these bytes spell was checked and run, and what came of that was told
 pub data Runs (script certificate : List ℕ) (o : Options) (log : Log) (may_fail : Fault → Type 0) (sink : SinkChange) (status : ℕ) : Type 0 where
   unbegun : log ≡ [] → Says (IsUnread certificate) sink status → Runs script certificate o log may_fail sink status
-  checked : (s : Script) (c : Certificate) → SpellsScript script s → IsText certificate c → RunsBy s c o log may_fail sink status →
+  checked : (s : Script) (c : Certificate) → SpellsScript script s → IsText certificate c → RunsBy Given s c o log may_fail sink status →
       Runs script certificate o log may_fail sink status

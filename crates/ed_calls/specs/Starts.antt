@@ -5,14 +5,13 @@ use Rattle.ed_syntax.specs.Commands.{Script}
 use Rattle.ed_syntax.specs.reading.Reading.{script_of}
 use Rattle.landmarks.specs.ChainValues.{ChainValue}
 use Rattle.ed_rules.specs.LineBounds.{IsAtMost, most_lines}
-use Rattle.cert_check.specs.checker.Beginning.{landmarks_of}
-use Rattle.cert_check.specs.checker.Sound.{HaveLandmarks}
 use Rattle.analyser.specs.declared.analysis.Start.{Start}
 use Rattle.hints.specs.declared.like.Like.{Like}
 use Rattle.hints.specs.Passing.{IsVouched}
 use Rattle.hints.specs.Widest.{IsWidest, fullest}
 use Rattle.hints.specs.Landmarks.{IsLandmarked}
-use Rattle.hints.specs.Like.{Fits, IsLike, fullest_like, given_like, lines_in}
+use Rattle.hints.specs.Allowing.{AllowsFile}
+use Rattle.hints.specs.Like.{IsLike, fullest_like, given_like, lines_in}
 use Rattle.ed_calls.specs.declared.starts.Starts.{Starts}
 use Rattle.ed_calls.specs.declared.starts.Starts.TheVariants as starts
 
@@ -45,11 +44,6 @@ abbrev pub AreAllowed : Starts → Type 0
 AreAllowed (starts.Given start) = IsPartOfStart (Some start.min) start.max
 AreAllowed (starts.Widest given) = IsPartOfStart given.min given.max
 AreAllowed (starts.Like like) = lines_in like ≤ most_lines
-
--- These lines are those of a file that a start allows: there are as many as it may have, each pattern that it states is matched by one, and the
--- landmarks that it states are in them.
-abbrev pub AllowsFile : Start → (lines : List (List ℕ)) → Type 0
-AllowsFile start lines = Fits start lines × HaveLandmarks lines (landmarks_of (unwrap_or start.landmarks []))
 
 -- A start is one with landmarks that is found of what the file gives of it, each of which is needed, and the file is one that it allows.
 pub record IsLandmarkedLike (script : Script) (like : Like) (start : Start) : Type 0 where

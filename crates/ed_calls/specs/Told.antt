@@ -9,6 +9,8 @@ use Rattle.cert_check.specs.declared.checker.verdict.Place.{Place}
 use Rattle.cert_check.specs.declared.checker.verdict.Verdict.{Verdict}
 use Rattle.cert_check.specs.declared.checker.verdict.Verdict.TheVariants.{Accepted, Refused}
 use Rattle.cert_check.specs.text.Faults.{IsVersionFault, IsLineFault, IsSizeFault}
+use Rattle.ed_calls.specs.declared.told.Origin.{Origin}
+use Rattle.ed_calls.specs.declared.told.Origin.TheVariants.{Given, Made}
 use Rattle.ed_calls.specs.declared.told.Told.{Told}
 
 -- a command by its number, or by that and its number in the command's list
@@ -25,8 +27,17 @@ verdict_told (Refused place) = line_told (codes "refused: command " ++ place_tex
 abbrev pub cannot_told : Place → Fault → Told
 cannot_told place why = line_told (codes "cannot: command " ++ place_text place ++ codes ": " ++ text_of why) 1
 
+-- a start that isn't one of a certificate's, where that was given
 abbrev pub outside_told : Told
 outside_told = line_told (codes "start outside the certificate") 4
+
+-- and where it was made for the run, so that nobody has seen it: nothing is told, and the status is one of its own
+abbrev pub unfit_told : Told
+unfit_told = record { output = []; status = 5 }
+
+abbrev pub outside_of : Origin → Told
+outside_of Given = outside_told
+outside_of Made = unfit_told
 
 -- what is told of bytes that are the text of no certificate
 pub data IsUnread (bytes : List ℕ) (told : Told) : Type 0 where

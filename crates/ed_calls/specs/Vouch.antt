@@ -4,6 +4,7 @@ use Rattle.ed_base.specs.declared.fault.Fault.TheVariants as fault
 use Rattle.ed_syntax.specs.Commands.{Script}
 use Rattle.ed_syntax.specs.reading.Reading.{script_of}
 use Rattle.ed_syntax.specs.spelling.Spellings.{SpellsScript}
+use Rattle.cert_check.specs.declared.checker.verdict.Place.{Place}
 use Rattle.cert_check.specs.Certificates.{certificate_value}
 use Rattle.cert_check.specs.text.HasText.{IsText}
 use Rattle.analyser.specs.Analysis.{IsAnswer, IsValid}
@@ -33,10 +34,10 @@ pub record IsAnswerFor (script : List ℕ) (start : Start) (answer : Analysis) :
   pub checked : IsChecked read start answer
   pub foretold : IsExactAnswer read start answer
 
--- A script that names no file by what isn't UTF-8 is told by the analyser's answer over the start that it is judged over. Another one is
--- refused at its first command with such a name, since a run would be refused that file.
+-- A script is told by the analyser's answer over the start that it is judged over; but where a command asks for a file by what isn't UTF-8, and
+-- comes before the first need that fails, it is refused at that command, since a run would be refused that file.
 pub data Vouches (script : List ℕ) (starts : Starts) (told : Told) : Type 0 where
-  answered : (start : Start) (answer : Analysis) → first_unusable (script_of script) ≡ None → IsJudgedFor script starts start →
-      IsAnswerFor script start answer → IsToldOf answer told → Vouches script starts told
-  unusable : (number : ℕ) → first_unusable (script_of script) ≡ Some number →
-      told ≡ cannot_told (record { command = number; inner = None }) fault.File → Vouches script starts told
+  answered : (start : Start) (answer : Analysis) → IsJudgedFor script starts start → IsAnswerFor script start answer →
+      first_unusable (script_of script) start answer ≡ None → IsToldOf answer told → Vouches script starts told
+  unusable : (start : Start) (answer : Analysis) (place : Place) → IsJudgedFor script starts start → IsAnswerFor script start answer →
+      first_unusable (script_of script) start answer ≡ Some place → told ≡ cannot_told place fault.File → Vouches script starts told

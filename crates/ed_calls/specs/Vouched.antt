@@ -12,6 +12,7 @@ use Rattle.cert_check.specs.Certificates.{certificate_value}
 use Rattle.analyser.specs.declared.analysis.Start.{Start}
 use Rattle.analyser.specs.declared.analysis.Analysis.TheVariants.{Vouched}
 use Rattle.ed_calls.specs.declared.starts.Starts.{Starts}
+use Rattle.ed_calls.specs.declared.told.Origin.TheVariants.{Made}
 use Rattle.ed_calls.specs.declared.told.Told.{Told}
 use Rattle.ed_calls.specs.Names.{first_unusable}
 use Rattle.ed_calls.specs.Run.{RunsBy}
@@ -25,9 +26,9 @@ pub record IsRefused (script : List ℕ) (starts : Starts) (told : Told) : Type 
   pub status : told.status ≡ 1
 
 -- `edit --vouched`: the script that these bytes spell isn't vouched for, and nothing was asked of the files; or a certificate was made for the
--- start that it is judged over, and it was run where that allows it.
+-- start that it is judged over, and it was run where that allows it. Of a start that isn't one of the certificate's nothing is told, with status 5.
 pub data RunsVouched (script : List ℕ) (starts : Starts) (o : Options) (log : Log) (may_fail : Fault → Type 0) (sink : SinkChange) (status : ℕ) : Type 0 where
   refused : log ≡ [] → Says (IsRefused script starts) sink status → RunsVouched script starts o log may_fail sink status
-  vouched : (read : Script) (start : Start) (c : Certificate) → SpellsScript script read → first_unusable (script_of script) ≡ None →
-      IsJudgedFor script starts start → IsAnswerFor script start (Vouched c) → RunsBy read (certificate_value c) o log may_fail sink status →
+  vouched : (read : Script) (start : Start) (c : Certificate) → SpellsScript script read → IsJudgedFor script starts start →
+      IsAnswerFor script start (Vouched c) → first_unusable (script_of script) start (Vouched c) ≡ None → RunsBy Made read (certificate_value c) o log may_fail sink status →
       RunsVouched script starts o log may_fail sink status

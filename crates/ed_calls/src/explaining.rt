@@ -41,16 +41,24 @@ pub fn explain_script<W: Sink>(
 {
     let (are_sought, least_sought) = (starts.are_sought(), starts.least_sought());
     let unbounded = starts.are_unbounded();
-    match judge(alloc, script, starts) {
-        Ok(Finding::Unusable(number)) => {
-            aside.unusable(number);
+    match judge(alloc, script, &starts) {
+        Ok(Finding::Unusable(place)) => {
+            aside.unusable(place);
             tell(Ok(nothing_told(alloc)), sink)
         }
         Ok(Finding::Judged(one)) => {
             let status = tell(answer_told(alloc, script, &one.analysis), sink);
             match status {
                 VOUCHED_STATUS if are_sought => aside.found(&one.script, &one.start, unbounded),
-                CANNOT_STATUS => aside.cannot(&one.start, &one.analysis, least_sought, false),
+                CANNOT_STATUS => {
+                    aside.cannot(
+                        &one.start,
+                        &one.analysis,
+                        starts.file(),
+                        least_sought,
+                        false,
+                    )
+                }
                 _ => {}
             }
             status
@@ -86,7 +94,7 @@ fn nothing_told(alloc: Global) -> Told
 
 /// What is told by the analyser's answer.
 fn answer_told(alloc: Global, script: &[u8], analysis: &Analysis) -> Result<Told, AllocError>
-    ensures value { IfOk result (IsExplainedBy script.now analysis.now) }
+    ensures value { IfOk result (IsExplainedBy analysis.now) }
 {
     match analysis {
         Analysis::Vouched(certificate) => notes_told(alloc, script, certificate.notes.as_slice()),
@@ -104,7 +112,7 @@ fn answer_told(alloc: Global, script: &[u8], analysis: &Analysis) -> Result<Told
 
 /// What is told by the notes of a certificate.
 fn notes_told(alloc: Global, script: &[u8], notes: &[Note]) -> Result<Told, AllocError>
-    ensures value { IfOk result (IsExplained script.now (map note_value notes.now)) }
+    ensures value { IfOk result (IsExplained (map note_value notes.now)) }
 {
     let commands = explain_commands(alloc, notes)?;
     let output = explain_text(alloc, script, commands.as_slice())?;

@@ -9,6 +9,7 @@ use crate::starts::Starts;
 use crate::stderr::aside::Aside;
 use crate::vouching::{CANNOT_STATUS, VOUCHED_STATUS};
 use analyser::Analysis;
+use cert_check::Place;
 use ed_base::Fault;
 use std::alloc::{AllocError, Global};
 
@@ -24,7 +25,7 @@ pub enum Detail {
 }
 
 /// Judges the script that these bytes spell over the start that is given or found, and gives the status that `vouch_text` ends with where
-/// its output is taken. Of a script that isn't vouched for a person is told why; without memory, and of one that is, nothing.
+/// its output is taken. A person is told why a script isn't vouched for, and what it shows that is hardly meant.
 pub fn judge_text(
     alloc: Global,
     script: &[u8],
@@ -36,16 +37,18 @@ pub fn judge_text(
     ensures judged { IsJudgement script.now starts result }
     ensures status { result ≤ 2 }
 {
-    let least_sought = starts.least_sought();
-    match judge(alloc, script, starts) {
-        Ok(Finding::Unusable(number)) => {
-            tell_name(number, detail, aside);
+    if detail != Detail::Nothing {
+        aside.remark();
+    }
+    match judge(alloc, script, &starts) {
+        Ok(Finding::Unusable(place)) => {
+            tell_name(place, detail, aside);
             CANNOT_STATUS
         }
         Ok(Finding::Judged(one)) => match &one.analysis {
             Analysis::Vouched(_) => VOUCHED_STATUS,
             Analysis::Cannot { .. } => {
-                tell_why(&one, least_sought, detail, aside);
+                tell_why(&one, &starts, detail, aside);
                 CANNOT_STATUS
             }
         },
@@ -53,20 +56,25 @@ pub fn judge_text(
     }
 }
 
-/// Tells a person which command names a file by what isn't UTF-8.
-fn tell_name(number: usize, detail: Detail, aside: &mut Aside<'_>) {
+/// Tells a person which command asks for a file by what isn't UTF-8.
+fn tell_name(place: Place, detail: Detail, aside: &mut Aside<'_>) {
     if detail != Detail::Nothing {
-        aside.unusable(number);
+        aside.unusable(place);
     }
 }
 
 /// Tells a person why a script isn't vouched for.
-fn tell_why(one: &Judged, least_sought: bool, detail: Detail, aside: &mut Aside<'_>)
+fn tell_why(one: &Judged, starts: &Starts, detail: Detail, aside: &mut Aside<'_>)
     requires allowed { IsAllowed one.now.start }
 {
-    match detail {
-        Detail::Nothing => {}
-        Detail::First => aside.cannot(&one.start, &one.analysis, least_sought, false),
-        Detail::Each => aside.cannot(&one.start, &one.analysis, least_sought, true),
+    if detail == Detail::Nothing {
+        return;
     }
+    aside.cannot(
+        &one.start,
+        &one.analysis,
+        starts.file(),
+        starts.least_sought(),
+        detail == Detail::Each,
+    );
 }

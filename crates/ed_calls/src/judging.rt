@@ -11,6 +11,7 @@ ghost use Rattle.ed_calls.specs.Vouch.{IsAnswerFor};
 use crate::names::first_unusable;
 use crate::starts::{Starts, start_of};
 use analyser::{Analysis, Start, analyse};
+use cert_check::Place;
 use ed_syntax::{Script, read_script, scripts_are_read_as_spelled};
 use hints::copy_of;
 use std::alloc::{AllocError, Global};
@@ -26,30 +27,29 @@ pub(crate) struct Judged {
 /// What is found of a script.
 #[derive(Debug, Drop)]
 pub(crate) enum Finding {
-    /// The command of this number, which counts from 1, names a file by what isn't UTF-8. It is the first that does.
-    Unusable(usize),
-    /// No command does, and the script was judged.
+    /// The command at this place asks for a file by what isn't UTF-8. It is the first that does, and a run comes there before a need that
+    /// fails.
+    Unusable(Place),
+    /// None does, and the script was judged.
     Judged(Judged),
 }
 
 /// What is found of the script that these bytes spell.
-pub(crate) fn judge(alloc: Global, script: &[u8], starts: Starts) -> Result<Finding, AllocError>
-    requires allowed { AreAllowed starts }
-    ensures found { IfOk result (IsFinding script.now starts) }
+pub(crate) fn judge(alloc: Global, script: &[u8], starts: &Starts) -> Result<Finding, AllocError>
+    requires allowed { AreAllowed starts.now }
+    ensures found { IfOk result (IsFinding script.now starts.now) }
 {
     let read = read_script(alloc, script)?;
-    match first_unusable(&read) {
-        Some(number) => Ok(Finding::Unusable(number)),
-        None => {
-            let start = start_of(alloc, script, starts)?;
-            let kept = copy_of(&start)?;
-            let analysis = answer(&read, start)?;
-            Ok(Finding::Judged(Judged {
-                script: read,
-                start: kept,
-                analysis,
-            }))
-        }
+    let start = start_of(alloc, script, starts)?;
+    let kept = copy_of(&start)?;
+    let analysis = answer(&read, start)?;
+    match first_unusable(&read, &kept, &analysis) {
+        Some(place) => Ok(Finding::Unusable(place)),
+        None => Ok(Finding::Judged(Judged {
+            script: read,
+            start: kept,
+            analysis,
+        })),
     }
 }
 

@@ -2,7 +2,6 @@
 //! start is tested.
 #![tactic(auto)]
 
-mod allowing;
 mod checking;
 mod editing;
 mod explaining;
@@ -16,6 +15,7 @@ mod landmarked;
 mod laws;
 mod names;
 mod placed;
+mod places;
 mod running;
 mod starts;
 mod stated;
@@ -40,8 +40,8 @@ pub use stderr::command_line::quoted;
 pub use stderr::file_name::{is_named_as_script, quoted_word};
 pub use stderr::pattern::wrong_in_pattern;
 pub use stderr::refusals::{
-    Explains, Watched, show_absent, show_input, show_memory, show_output, show_too_long,
-    show_unjudged, show_unread,
+    Explains, Watched, show_absent, show_input, show_memory, show_missing, show_output,
+    show_too_long, show_unjudged, show_unread, show_unwritten,
 };
 pub use stderr::shown::shown_lines;
 pub use stderr::unput::show_unput;

@@ -55,7 +55,7 @@ fn missed_at<'c>(
 }
 
 /// The first of these chains that a file doesn't have.
-pub(crate) fn missed_over<'c>(
+fn missed_over<'c>(
     alloc: Global,
     chains: &'c [LandmarkChain],
     file: &[u8],

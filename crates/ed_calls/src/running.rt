@@ -11,11 +11,12 @@ ghost use Rattle.cert_check.specs.checker.Sound.{IsAllowed, HaveLandmarks};
 ghost use Rattle.ed_calls.specs.Headline.{Headline, MayFail};
 ghost use Rattle.ed_calls.specs.Run.{CheckedRun, LiesOutside, Runs, RunsBy, reading, told_of};
 ghost use Rattle.ed_calls.specs.RunOver.{RunsOver, lines_told};
+ghost use Rattle.ed_calls.specs.Told.{outside_of};
 
 use crate::placed::first_missed;
 use crate::stated::unmatched;
 use crate::stderr::aside::Aside;
-use crate::told::{outside_told, tell, unread_told, verdict_told};
+use crate::told::{Origin, UNFIT_STATUS, outside_told, tell, unread_told, verdict_told};
 use cert_check::{Certificate, Place, Verdict, check};
 use ed_base::{Bytes, Fault, count_lines};
 use ed_rules::LineBounds;
@@ -57,12 +58,23 @@ pub fn run<O: Outside, W: Sink>(
     let Ok(script) = read_script(alloc, script) else {
         return Fault::Memory.status();
     };
-    run_by(alloc, script, &certificate, options, outside, sink, aside)
+    run_by(
+        alloc,
+        Origin::Given,
+        script,
+        &certificate,
+        options,
+        outside,
+        sink,
+        aside,
+    )
 }
 
-/// Runs a script where its certificate allows it, tells the sink what keeps it from being run, and gives the exit status.
+/// Runs a script where its certificate, which comes from there, allows it, tells the sink what keeps it from being run, and gives the exit
+/// status.
 pub(crate) fn run_by<O: Outside, W: Sink>(
     alloc: Global,
+    origin: Origin,
     script: Script,
     certificate: &Certificate,
     options: Options,
@@ -74,9 +86,9 @@ pub(crate) fn run_by<O: Outside, W: Sink>(
     ensures log { O.log outside.new ≡ O.log outside.old ++ added (O.log outside.old) (O.log outside.new) }
     ensures came { let log = added (O.log outside.old) (O.log outside.new) in
         let sink = change (W.state sink.old) (W.state sink.new) in
-        RunsBy (script_value script) (certificate_value certificate.now) options log
+        RunsBy origin (script_value script) (certificate_value certificate.now) options log
         (MayFail options.path log (O.failures outside.old) (O.failures outside.new) sink) sink result }
-    ensures status { result ≤ 4 }
+    ensures status { result ≤ (outside_of origin).status }
 {
     match run_checked::<ChunkStore, O, W>(
         alloc,
@@ -88,7 +100,10 @@ pub(crate) fn run_by<O: Outside, W: Sink>(
         aside,
     ) {
         Ok(Ran::Refused(place)) => tell(verdict_told(alloc, Verdict::Refused(place)), sink),
-        Ok(Ran::StartOutside) => tell(outside_told(alloc), sink),
+        Ok(Ran::StartOutside) => match origin {
+            Origin::Given => tell(outside_told(alloc), sink),
+            Origin::Made => UNFIT_STATUS,
+        },
         Ok(Ran::Done(_)) => 0,
         Err(fault) => fault.status(),
     }

@@ -8,14 +8,13 @@ ghost use Rattle.hints.specs.Passing.{IsAllowed, IsVouched};
 ghost use Rattle.hints.specs.Widest.{fullest};
 ghost use Rattle.ed_calls.specs.Starts.{AreAllowed, IsJudgedFor, IsLandmarkedLike, IsPartOfStart, chains_given, path_of, with_landmarks};
 
-use crate::allowing::allows_file;
 use analyser::Start;
 use ed_base::{Bytes, count_lines};
 use ed_rules::Texts;
 use ed_syntax::read_script;
 use hints::{
-    Given, Like, copy_of, fullest_like, fullest_start, given_like, landmark_start, like_start,
-    widest_start,
+    Given, Like, allows_file, copy_of, fullest_like, fullest_start, given_like, landmark_start,
+    like_start, widest_start,
 };
 use landmarks::{LandmarkChain, LandmarkChains};
 use std::alloc::{AllocError, Global};
@@ -90,15 +89,35 @@ impl Starts {
         }
     }
 
-    /// Whether the start is to be found.
-    pub(crate) fn are_sought(&self) -> bool {
-        matches!(self, Starts::Widest(_) | Starts::Like(_))
+    /// Whether it is the empty buffer of a run without a file.
+    pub fn are_empty(&self) -> bool {
+        match self {
+            Starts::Given(start) => start.path.is_none() && start.max == Some(0),
+            Starts::Widest(given) => given.path.is_none() && given.max == Some(0),
+            Starts::Like(_) => false,
+        }
+    }
+
+    /// Whether the start is to be found, so that a person is told which one it is.
+    pub fn are_sought(&self) -> bool {
+        match self {
+            Starts::Widest(_) | Starts::Like(_) => !self.are_empty(),
+            Starts::Given(_) => false,
+        }
+    }
+
+    /// The file that it is proposed from, if it is.
+    pub(crate) fn file(&self) -> Option<&Bytes> {
+        match self {
+            Starts::Like(like) => Some(&like.file),
+            Starts::Given(_) | Starts::Widest(_) => None,
+        }
     }
 
     /// Whether its least number of lines is, with nothing but a limit to go by.
     pub(crate) fn least_sought(&self) -> bool {
         match self {
-            Starts::Widest(given) => given.min.is_none(),
+            Starts::Widest(given) => given.min.is_none() && given.max != Some(0),
             Starts::Given(_) | Starts::Like(_) => false,
         }
     }
@@ -116,7 +135,7 @@ impl Starts {
 }
 
 /// The chains of landmarks, where some are given.
-pub(crate) fn chains_in(landmarks: &Option<LandmarkChains>) -> &[LandmarkChain]
+fn chains_in(landmarks: &Option<LandmarkChains>) -> &[LandmarkChain]
     ensures value { result.now ≡ unwrap_or landmarks.now [] }
 {
     match landmarks {
@@ -179,15 +198,15 @@ fn copy_of_landmarks(
 }
 
 /// The start that a script is judged over. Where none is found it is the fullest one, over which the script isn't vouched for.
-pub(crate) fn start_of(alloc: Global, script: &[u8], starts: Starts) -> Result<Start, AllocError>
-    requires allowed { AreAllowed starts }
-    ensures judged { IfOk result (IsJudgedFor script.now starts) }
+pub(crate) fn start_of(alloc: Global, script: &[u8], starts: &Starts) -> Result<Start, AllocError>
+    requires allowed { AreAllowed starts.now }
+    ensures judged { IfOk result (IsJudgedFor script.now starts.now) }
     ensures allowed { IfOk result IsAllowed }
 {
     match starts {
-        Starts::Given(start) => Ok(start),
-        Starts::Widest(given) => widest_of(alloc, script, &given),
-        Starts::Like(like) => proposed_from(alloc, script, &like),
+        Starts::Given(start) => copy_of(start),
+        Starts::Widest(given) => widest_of(alloc, script, given),
+        Starts::Like(like) => proposed_from(alloc, script, like),
     }
 }
 

@@ -45,7 +45,7 @@ fn unmatched_at<'p>(
 }
 
 /// The first of these patterns that no line of a file matches.
-pub(crate) fn unmatched_over<'p>(
+fn unmatched_over<'p>(
     alloc: Global,
     patterns: &'p [Bytes],
     file: &[u8],

@@ -13,4 +13,6 @@ pub mod shown;
 mod stopped;
 pub mod unput;
 mod unread;
+mod unreadable;
+mod wanted;
 mod written;

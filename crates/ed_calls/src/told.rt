@@ -12,6 +12,18 @@ use std::alloc::{AllocError, Global};
 /// The status of a start that its certificate doesn't allow.
 const OUTSIDE_STATUS: u8 = 4;
 
+/// The same where the certificate was made for the run, and nothing is told but to a person.
+pub const UNFIT_STATUS: u8 = 5;
+
+/// Where the certificate of a run comes from.
+#[derive(Clone, Copy, Debug, PartialEq, Eq)]
+pub enum Origin {
+    /// It was given.
+    Given,
+    /// It was made for the run, and nobody has seen it.
+    Made,
+}
+
 /// What is told, and the status that goes with it.
 #[derive(Debug, PartialEq, Eq, Drop)]
 pub struct Told {

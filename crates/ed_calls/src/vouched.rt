@@ -10,7 +10,7 @@ use crate::judging::{Finding, Judged, judge};
 use crate::running::run_by;
 use crate::starts::Starts;
 use crate::stderr::aside::Aside;
-use crate::told::{cannot_told, tell};
+use crate::told::{Origin, cannot_told, tell};
 use crate::vouching::{CANNOT_STATUS, refuse_name};
 use analyser::Analysis;
 use ed_base::Fault;
@@ -21,7 +21,8 @@ use std::alloc::{AllocError, Global};
 /// Runs the script that these bytes spell if it is vouched for, and gives the exit status. The start that it is judged over is given or
 /// found, the certificate is checked, the start file is tested, and only then the script is run, as `run` does it.
 ///
-/// Where it isn't vouched for, the need that fails is told as `vouch_text` tells it, and no file is asked for. What keeps it from being run
+/// Where it isn't vouched for, the need that fails is told as `vouch_text` tells it, and no file is asked for. Where the start file isn't one of
+/// the certificate's nothing is told but to a person, who has no certificate, and the status is one of its own. What keeps it from being run
 /// else, and where it stopped by a fault, is told as `run` tells it.
 pub fn edit_vouched<O: Outside, W: Sink>(
     alloc: Global,
@@ -39,12 +40,13 @@ pub fn edit_vouched<O: Outside, W: Sink>(
         let sink = change (W.state sink.old) (W.state sink.new) in
         RunsVouched script.now starts options log
         (MayFail options.path log (O.failures outside.old) (O.failures outside.new) sink) sink result }
-    ensures status { result ≤ 4 }
+    ensures status { result ≤ 5 }
 {
     scripts_are_read_as_spelled();
-    let least_sought = starts.least_sought();
-    match judge(alloc, script, starts) {
-        Ok(Finding::Unusable(number)) => refuse_name(alloc, script, number, sink, aside),
+    let (least_sought, unbounded) = (starts.least_sought(), starts.are_unbounded());
+    aside.remark();
+    match judge(alloc, script, &starts) {
+        Ok(Finding::Unusable(place)) => refuse_name(alloc, place, sink, aside),
         Ok(
             Finding::Judged(
                 Judged {
@@ -55,12 +57,22 @@ pub fn edit_vouched<O: Outside, W: Sink>(
             ),
         ) => match &analysis {
             Analysis::Vouched(certificate) => {
-                run_by(alloc, read, certificate, options, outside, sink, aside)
+                aside.to_be_run(&read, &start, unbounded);
+                run_by(
+                    alloc,
+                    Origin::Made,
+                    read,
+                    certificate,
+                    options,
+                    outside,
+                    sink,
+                    aside,
+                )
             }
             Analysis::Cannot { place, why, .. } => {
                 let status = tell(cannot_told(alloc, *place, *why), sink);
                 if status == CANNOT_STATUS {
-                    aside.cannot(&start, &analysis, least_sought, false);
+                    aside.cannot(&start, &analysis, starts.file(), least_sought, false);
                 }
                 status
             }

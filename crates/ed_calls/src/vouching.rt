@@ -1,9 +1,8 @@
 //! The certificate of a script, or the need that fails.
-ghost use Rattle.std.specs.Prelude.{◌≡◌, ◌<◌, ◌≤◌, ◌-◌, ◌^◌, Some};
-ghost use Rattle.ed_syntax.specs.reading.Reading.{script_of};
+ghost use Rattle.std.specs.Prelude.{◌<◌, ◌≤◌, ◌-◌, ◌^◌, ℕ, List};
 ghost use Rattle.analyser.specs.Analysis.{HasTextIfVouched};
 ghost use Rattle.ed_session.specs.Sinks.{change};
-ghost use Rattle.ed_calls.specs.Names.{first_unusable};
+ghost use Rattle.ed_calls.specs.Finding.{IsUnusable};
 ghost use Rattle.ed_calls.specs.Starts.{AreAllowed};
 ghost use Rattle.ed_calls.specs.Told.{Says};
 ghost use Rattle.ed_calls.specs.Vouch.{IsToldOf, Vouches};
@@ -44,13 +43,16 @@ pub fn vouch_text<W: Sink>(
 {
     let (are_sought, least_sought) = (starts.are_sought(), starts.least_sought());
     let unbounded = starts.are_unbounded();
-    match judge(alloc, script, starts) {
-        Ok(Finding::Unusable(number)) => refuse_name(alloc, script, number, sink, aside),
+    aside.remark();
+    match judge(alloc, script, &starts) {
+        Ok(Finding::Unusable(place)) => refuse_name(alloc, place, sink, aside),
         Ok(Finding::Judged(one)) => {
             let status = tell_answer(alloc, &one.analysis, sink);
             match status {
                 VOUCHED_STATUS if are_sought => aside.found(&one.script, &one.start, unbounded),
-                CANNOT_STATUS => aside.cannot(&one.start, &one.analysis, least_sought, all),
+                CANNOT_STATUS => {
+                    aside.cannot(&one.start, &one.analysis, starts.file(), least_sought, all)
+                }
                 _ => {}
             }
             status
@@ -59,24 +61,19 @@ pub fn vouch_text<W: Sink>(
     }
 }
 
-/// Tells a sink that a command names a file that none can be, by the fault that a run would end with. A person is told the command.
+/// Tells a sink that a command asks for a file that none can be, by the fault that a run would end with. A person is told the command.
 pub(crate) fn refuse_name<W: Sink>(
     alloc: Global,
-    script: &[u8],
-    number: usize,
+    place: Place,
     sink: &mut W,
     aside: &mut Aside<'_>,
 ) -> u8
     requires count { (W.state sink.old).failures < 2 ^ 64 - 1 }
-    requires named { first_unusable (script_of script.now) ≡ Some number }
-    ensures says { (starts : Starts) → Says (IsRefused script.now starts) (change (W.state sink.old) (W.state sink.new)) result }
+    ensures says { (script : List ℕ) (starts : Starts) → IsUnusable script starts place →
+        Says (IsRefused script starts) (change (W.state sink.old) (W.state sink.new)) result }
     ensures status { result ≤ 4 }
 {
-    let place = Place {
-        command: number,
-        inner: None,
-    };
-    aside.unusable(number);
+    aside.unusable(place);
     tell(cannot_told(alloc, place, Fault::File), sink)
 }
 

@@ -2,16 +2,13 @@
 use Rattle.std.proofs.Common.{◌≡◌, ◌<◌, ◌+◌, ◌++◌, ◌∷◌, [], ℕ, List, Option, None, length, map, take, All, refl, sym, ap, ap₂, subst, ◌∙◌}
 use Rattle.std.specs.Prelude.{get_or}
 use Rattle.std.proofs.lemmas.List.{get_or-map, length-map, map-append, take_more}
-use Rattle.std.proofs.lemmas.List.Elements.{All-nil, All-head, All-tail, All-get_or, All-push}
+use Rattle.std.proofs.lemmas.List.Elements.{All-head, All-tail, All-get_or, All-push}
 use Rattle.landmarks.specs.declared.landmark.Landmark.{Landmark}
 use Rattle.landmarks.specs.ChainValues.{ChainValue}
 use Rattle.landmarks.specs.Spelled.{SpellsChain, NoChain}
 use Rattle.hints.specs.Nowhere.{SomeFileHas}
 use Rattle.ed_calls.specs.Landmarked.{AreSpelled, IsSpelled, texts_of}
 use Rattle.ed_main.specs.Chains.{AreHad}
-
-pub none_spelled : AreSpelled [] []
-none_spelled = record { stated = refl; spelled = All-nil IsSpelled }
 
 -- one more text with its chain
 pub more_spelled : (texts : List (List ℕ)) (chains : List ChainValue) (chain : ChainValue) → AreSpelled texts chains → IsSpelled chain →

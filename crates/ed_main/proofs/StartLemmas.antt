@@ -3,11 +3,9 @@ use Rattle.std.proofs.Common.{◌≡◌, ◌≤◌, ◌∙◌, ℕ, Bool, true, 
 use Rattle.std.specs.Prelude.{IfSome}
 use Rattle.std.proofs.lemmas.Bool.{leb-true}
 use Rattle.ed_rules.specs.LineBounds.{IsAtMost, is_within, most_lines}
-use Rattle.landmarks.specs.ChainValues.{ChainValue}
 use Rattle.ed_session.specs.Drives.{Log}
-use Rattle.ed_calls.specs.Starts.{AreAllowed, path_of, with_landmarks}
+use Rattle.ed_calls.specs.Starts.{AreAllowed, path_of}
 use Rattle.ed_calls.specs.declared.starts.Starts.{Starts}
-use Rattle.ed_calls.specs.declared.starts.Starts.TheVariants as starts
 use Rattle.ed_main.specs.Job.{IsGiven}
 use Rattle.ed_main.specs.Starts.{AreStarts, HasBytes, any_start}
 use Rattle.ed_main.specs.Wanted.{AreFound, IsNoStart, IsWanted, WithStarts, fault_of, landmarked, read, unread}
@@ -15,16 +13,15 @@ use Rattle.ed_main.specs.declared.proposing.NoStart.{NoStart}
 use Rattle.ed_main.specs.declared.wanted.Wanted.{Wanted}
 use Rattle.ed_main.specs.declared.wanted.Wanted.TheVariants as wanted
 use Rattle.ed_main.specs.Several.{status_of_unread}
-use Rattle.ed_main.specs.Words.{are_in_order, is_path, judged_if, judged_over, starts_of, vouching_of}
+use Rattle.ed_main.specs.Words.{are_in_order, file_for, is_path, starts_of, vouching_of}
 
 -- any start with a file, or the empty buffer
 pub any_allowed : (path : Option (List ℕ)) (has : Option (List (List ℕ))) → AreAllowed (any_start path has)
-any_allowed None has = record { ordered = lit≤ tt; low = lit≤ tt; high = lit≤ tt }
+any_allowed None has = record { ordered = tt; low = tt; high = lit≤ tt }
 any_allowed (Some path) has = record { ordered = tt; low = tt; high = tt }
 
 any_kept : (path : Option (List ℕ)) (has : Option (List (List ℕ))) → path_of (any_start path has) ≡ path
-any_kept None has = refl
-any_kept (Some path) has = refl
+any_kept path has = refl
 
 at_most : (lines : ℕ) (limit : Option ℕ) → is_within lines limit ≡ true → IsAtMost lines limit
 at_most lines None within = tt
@@ -55,11 +52,12 @@ path_has_bytes None named is = cc
 path_has_bytes (Some []) named is = cc
 path_has_bytes (Some (byte ∷ bytes)) named is = cc
 
--- landmarks change neither
-pub with_landmarks_given : (chains : List ChainValue) (starts : Starts) → AreStarts starts → AreStarts (with_landmarks chains starts)
-with_landmarks_given chains (starts.Given start) given = record { allowed = given.allowed; path = given.path }
-with_landmarks_given chains (starts.Widest part) given = record { allowed = given.allowed; path = given.path }
-with_landmarks_given chains (starts.Like like) given = given
+-- any file has a name too
+pub file_is_path : (path : Option (List ℕ)) (scripts : List (List ℕ)) → is_path path ≡ true → is_path (file_for path scripts) ≡ true
+file_is_path None [] named = named
+file_is_path None (script ∷ []) named = named
+file_is_path None (script ∷ next ∷ scripts) named = refl
+file_is_path (Some path) scripts named = named
 
 -- what is known of the starts of a job
 pub starts_given : (path : Option (List ℕ)) (least : Option ℕ) (most : Option (Option ℕ)) (has : Option (List (List ℕ)))
@@ -73,15 +71,6 @@ starts_given path least most has order low high named =
 -- any start with a file is one of these
 pub any_given : (path : Option (List ℕ)) (has : Option (List (List ℕ))) → is_path path ≡ true → AreStarts (any_start path has)
 any_given path has named = record { allowed = any_allowed path has; path = λ is. path_has_bytes path named (sym (any_kept path has) ∙ is) }
-
--- so is what `edit --vouched` judges a script over
-over_given : (path like : Option (List ℕ)) (at : List (List ℕ)) → is_path path ≡ true → IsWanted (judged_over path like at)
-over_given path None at named = any_given path (Some []) named
-over_given path (Some like) at named = path_has_bytes path named
-
-pub judged_given : (vouched : Bool) (path like : Option (List ℕ)) (at : List (List ℕ)) → is_path path ≡ true → IfSome (judged_if vouched path like at) IsWanted
-judged_given true path like at named = over_given path like at named
-judged_given false path like at named = tt
 
 -- a job of `vouch` has the start that it was made of
 pub vouching_given : (over : Wanted) (scripts : List (List ℕ)) (all quiet : Bool) → IsWanted over → IsGiven (vouching_of over scripts all quiet)

@@ -104,18 +104,10 @@ module _ {Z : Type 0} where
       let r : rows_of (found_of (out-SubCommand (box_value b)).matches) ≡ rows = cc in
       ap₂ (λ (t : Text) (rs : List Row). job_by_name t rs) n r
 
-  none : (o : Option (Box SubCommand Z)) → option_map (λ b. (out-SubCommand (box_value b)).name.now) o ≡ None → job_named (subcommand_rows o) ≡ None
-  none None is = refl
-  none (Some b) is = cc
-
 -- a subcommand gives the job of its name
 pub is_named : (m : ArgMatches) (name : Text) (rows : List Row) → subcommand_name_of m ≡ Some name → option_map (λ p. p.1) (subcommand_rows_of m) ≡ Some rows
     → job_named (subcommand_rows_of m) ≡ job_by_name name rows
 is_named m name rows is found = named (out-ArgMatches m).subcommand name rows is found
-
--- and none gives no job
-pub none_named : (m : ArgMatches) → subcommand_name_of m ≡ None → job_named (subcommand_rows_of m) ≡ None
-none_named m is = none (out-ArgMatches m).subcommand is
 
 -- landmarks that a subcommand is given are those of its rows
 pub had_by : (found : Option (Text × List Row)) (rows : List Row) → option_map (λ p. p.1) found ≡ Some rows → AreHadBy found → AreHadIn rows

@@ -3,6 +3,7 @@ use Rattle.std.proofs.Common.{◌≡◌, ℕ, Bool, true, false, List, [], ◌�
 use Rattle.clap.proofs.OnLiterals.{clap_on_literals}
 use Rattle.ed_calls.specs.declared.judgement.Detail.{Detail}
 use Rattle.ed_calls.specs.declared.judgement.Detail.TheVariants.{Each, First, Nothing}
+use Rattle.ed_calls.specs.declared.starts.Starts.{Starts}
 use Rattle.ed_calls.specs.declared.starts.Starts.TheVariants.{Given, Widest}
 use Rattle.ed_main.specs.Subcommands.{program}
 use Rattle.ed_main.specs.Words.{job_of, writing_of}
@@ -10,41 +11,50 @@ use Rattle.ed_main.specs.declared.job.Job.{Job}
 use Rattle.ed_main.specs.declared.job.Job.TheVariants as job
 use Rattle.ed_main.specs.declared.wanted.Wanted.{Wanted}
 use Rattle.ed_main.specs.declared.wanted.Wanted.TheVariants.{Like, Stated}
+use Rattle.ed_main.specs.declared.writing.Writing.{Writing}
 use Rattle.ed_main.specs.declared.writing.Writing.TheVariants as writing
 use Rattle.ed_main.proofs.Worked.{Row, row}
 
 -- a run with these options
 abbrev edit : Bool → Option (List ℕ) → Option (List ℕ) → Option Job
-edit silent prompt path = Some (job.Edit (record { silent = silent; prompt = prompt; path = path }) None writing.AtOnce None)
+edit silent prompt path = Some (job.Edit (record { silent = silent; prompt = prompt; path = path }) None (writing.AtOnce false) None)
 
 -- its rehearsal
 abbrev rehearsal : Bool → Option (List ℕ) → Option (List ℕ) → Option Job
-rehearsal silent prompt path = Some (job.Edit (record { silent = silent; prompt = prompt; path = path }) None writing.Never None)
+rehearsal silent prompt path = Some (job.Edit (record { silent = silent; prompt = prompt; path = path }) None (writing.Never false false) None)
+
+-- a run on F whose writes are made so
+abbrev edit_so : Writing → Option Job
+edit_so writes = Some (job.Edit (record { silent = false; prompt = None; path = Some (codes "F") }) None writes None)
 
 -- what a script is judged over on a file F, where it is: any such file
 abbrev over_any : (vouched : Bool) → Option Wanted
-over_any true = Some (Stated (Widest (record { path = Some (codes "F"); min = None; max = None; has = Some []; landmarks = None })) [])
+over_any true = Some (Stated (Widest (record { path = Some (codes "F"); min = None; max = None; has = None; landmarks = None })) [])
 over_any false = None
 
 -- a run on F only if the script is vouched for, or its rehearsal
 abbrev edit_vouched : (rehearsed : Bool) → Option Job
-edit_vouched rehearsed = Some (job.Edit (record { silent = false; prompt = None; path = Some (codes "F") }) None (writing_of rehearsed false) (over_any true))
+edit_vouched rehearsed = Some (job.Edit (record { silent = false; prompt = None; path = Some (codes "F") }) None (writing_of rehearsed false false None) (over_any true))
+
+-- the start that a script is judged over without a file
+abbrev over_nothing : Starts
+over_nothing = Widest (record { path = None; min = None; max = Some 0; has = None; landmarks = None })
 
 -- the same on the empty buffer
 abbrev edit_empty_vouched : Option Job
 edit_empty_vouched =
-    let over = Stated (Given (record { path = None; min = 0; max = Some 0; has = Some []; landmarks = None })) [] in
-    Some (job.Edit (record { silent = false; prompt = None; path = None }) None writing.AtOnce (Some over))
+    let over = Stated over_nothing [] in
+    Some (job.Edit (record { silent = false; prompt = None; path = None }) None (writing.AtOnce false) (Some over))
 
 -- a run on F only if the script is vouched for over files like G
 abbrev edit_like : Option Job
 edit_like =
     let over = Like (Some (codes "F")) true (codes "G") in
-    Some (job.Edit (record { silent = true; prompt = None; path = Some (codes "F") }) None writing.AtOnce (Some over))
+    Some (job.Edit (record { silent = true; prompt = None; path = Some (codes "F") }) None (writing.AtOnce false) (Some over))
 
 -- a run that replaces a file F whole
 abbrev edit_whole : (vouched : Bool) → Option Job
-edit_whole vouched = Some (job.Edit (record { silent = false; prompt = None; path = Some (codes "F") }) None writing.AtTheEnd (over_any vouched))
+edit_whole vouched = Some (job.Edit (record { silent = false; prompt = None; path = Some (codes "F") }) None (writing.AtTheEnd None) (over_any vouched))
 
 -- a certificate for these bounds
 abbrev vouch : ℕ → Option ℕ → Option (List ℕ) → Option Job
@@ -62,9 +72,9 @@ vouch_with has = Some (job.Vouch (Stated (Given (record { path = Some (codes "F"
 abbrev vouch_widest : (min max : Option ℕ) → Option Job
 vouch_widest min max = Some (job.Vouch (Stated (Widest (record { path = Some (codes "F"); min = min; max = max; has = None; landmarks = None })) []) None false)
 
--- a certificate for the empty buffer, with these patterns, or else all refusals
-abbrev vouch_empty_with : List (List ℕ) → Option Job
-vouch_empty_with has = Some (job.Vouch (Stated (Given (record { path = None; min = 0; max = Some 0; has = Some has; landmarks = None })) []) None true)
+-- a certificate for the empty buffer
+abbrev vouch_empty : Option Job
+vouch_empty = Some (job.Vouch (Stated over_nothing []) None false)
 
 -- a certificate for files F like G, or all refusals; one that tells of patterns, if it is asked for
 abbrev vouch_like : (patterns all : Bool) → Option Job
@@ -82,8 +92,8 @@ vouch_within_at at =
 -- a run on F only if the script is vouched for over files that have these landmarks
 abbrev edit_at : List (List ℕ) → Option Job
 edit_at at =
-    let over = Stated (Widest (record { path = Some (codes "F"); min = None; max = None; has = Some []; landmarks = None })) at in
-    Some (job.Edit (record { silent = false; prompt = None; path = Some (codes "F") }) None writing.AtOnce (Some over))
+    let over = Stated (Widest (record { path = Some (codes "F"); min = None; max = None; has = None; landmarks = None })) at in
+    Some (job.Edit (record { silent = false; prompt = None; path = Some (codes "F") }) None (writing.AtOnce false) (Some over))
 
 -- a script that is explained over files that have these landmarks
 abbrev explain_at : List (List ℕ) → Option Job
@@ -96,19 +106,19 @@ check certificate = Some (job.Check certificate None)
 
 -- a run that is checked first
 abbrev run : List ℕ → Bool → Option (List ℕ) → Option Job
-run certificate silent path = Some (job.Run certificate (record { silent = silent; prompt = None; path = path }) None writing.AtOnce)
+run certificate silent path = Some (job.Run certificate (record { silent = silent; prompt = None; path = path }) None (writing.AtOnce false))
 
--- one that replaces a file F whole
-abbrev run_whole : Option Job
-run_whole = Some (job.Run (codes "C") (record { silent = false; prompt = None; path = Some (codes "F") }) None writing.AtTheEnd)
+-- one on a file F whose writes are made so
+abbrev run_so : Writing → Option Job
+run_so writes = Some (job.Run (codes "C") (record { silent = false; prompt = None; path = Some (codes "F") }) None writes)
 
 -- its rehearsal
 abbrev rehearsed_run : List ℕ → Bool → Option (List ℕ) → Option Job
-rehearsed_run certificate silent path = Some (job.Run certificate (record { silent = silent; prompt = None; path = path }) None writing.Never)
+rehearsed_run certificate silent path = Some (job.Run certificate (record { silent = silent; prompt = None; path = path }) None (writing.Never false false))
 
 -- what each does with a file F and the script in a file S
 abbrev edit_from_file : (silent vouched : Bool) → Option Job
-edit_from_file silent vouched = Some (job.Edit (record { silent = silent; prompt = None; path = Some (codes "F") }) (Some (codes "S")) writing.AtOnce (over_any vouched))
+edit_from_file silent vouched = Some (job.Edit (record { silent = silent; prompt = None; path = Some (codes "F") }) (Some (codes "S")) (writing.AtOnce false) (over_any vouched))
 
 abbrev vouch_from_file : Option Job
 vouch_from_file = Some (job.Vouch (Stated (Widest (record { path = Some (codes "F"); min = None; max = None; has = None; landmarks = None })) []) (Some (codes "S")) false)
@@ -117,6 +127,14 @@ vouch_from_file = Some (job.Vouch (Stated (Widest (record { path = Some (codes "
 abbrev judge : (scripts : List (List ℕ)) → Detail → Option Job
 judge scripts detail = Some (job.Judge (Stated (Widest (record { path = Some (codes "F"); min = None; max = None; has = None; landmarks = None })) []) scripts detail)
 
+-- for any file, named FILE
+abbrev judge_any : (scripts : List (List ℕ)) → Detail → Option Job
+judge_any scripts detail = Some (job.Judge (Stated (Widest (record { path = Some (codes "FILE"); min = None; max = None; has = None; landmarks = None })) []) scripts detail)
+
+-- on the empty buffer, with nothing told
+abbrev judge_empty : (scripts : List (List ℕ)) → Option Job
+judge_empty scripts = Some (job.Judge (Stated over_nothing []) scripts Nothing)
+
 abbrev judge_like : (scripts : List (List ℕ)) → Detail → Option Job
 judge_like scripts detail = Some (job.Judge (Like (Some (codes "F")) false (codes "G")) scripts detail)
 
@@ -124,7 +142,7 @@ abbrev check_from_file : Option Job
 check_from_file = Some (job.Check (codes "C") (Some (codes "S")))
 
 abbrev run_from_file : Option Job
-run_from_file = Some (job.Run (codes "C") (record { silent = false; prompt = None; path = Some (codes "F") }) (Some (codes "S")) writing.AtOnce)
+run_from_file = Some (job.Run (codes "C") (record { silent = false; prompt = None; path = Some (codes "F") }) (Some (codes "S")) (writing.AtOnce false))
 
 -- a test of a start
 abbrev fits : (certificate : List ℕ) → (path : Option (List ℕ)) → Option Job
@@ -183,7 +201,11 @@ words =
     ∷ row (job_given (codes "vouch" ∷ codes "--min" ∷ codes "2" ∷ codes "F" ∷ []) ≡ vouch_widest (Some 2) None) refl  -- no max
     ∷ row (job_given (codes "vouch" ∷ codes "--max" ∷ codes "any" ∷ codes "F" ∷ []) ≡ vouch_widest None None) refl  -- no min and no limit
     ∷ row (job_given (codes "vouch" ∷ codes "F" ∷ codes "--max=3" ∷ []) ≡ vouch_widest None (Some 3)) refl  -- no min
-    ∷ row (job_given (codes "vouch" ∷ codes "--all" ∷ codes "--has" ∷ codes "a" ∷ []) ≡ vouch_empty_with (codes "a" ∷ [])) refl  -- no bounds and no file
+    ∷ row (job_given (codes "vouch" ∷ []) ≡ vouch_empty) refl  -- no bounds and no file
+    ∷ row (job_given (codes "vouch" ∷ codes "--max" ∷ codes "0" ∷ []) ≡ vouch_empty) refl  -- no lines and no file
+    ∷ row (job_given (codes "vouch" ∷ codes "--has" ∷ codes "a" ∷ []) ≡ None) refl  -- a pattern and no file
+    ∷ row (job_given (codes "vouch" ∷ codes "--max" ∷ codes "0" ∷ codes "--has" ∷ codes "a" ∷ codes "F" ∷ []) ≡ None) refl  -- a pattern and no lines
+    ∷ row (job_given (codes "explain" ∷ codes "--min" ∷ codes "0" ∷ codes "--max" ∷ codes "0" ∷ codes "--has" ∷ codes "a" ∷ []) ≡ None) refl  -- a pattern and no lines to explain
     ∷ row (job_given (codes "vouch" ∷ codes "--min" ∷ codes "3" ∷ codes "--max" ∷ codes "2" ∷ codes "F" ∷ []) ≡ None) refl  -- three lines at least and two at most
     ∷ row (job_given (codes "vouch" ∷ codes "--min" ∷ codes "any" ∷ codes "F" ∷ []) ≡ None) refl  -- min any and no max
     ∷ row (job_given (codes "vouch" ∷ codes "--max" ∷ codes "x" ∷ codes "F" ∷ []) ≡ None) refl  -- max without a number and no min
@@ -263,6 +285,8 @@ words =
     ∷ row (job_given (codes "edit" ∷ codes "-f" ∷ []) ≡ None) refl  -- no script
     ∷ row (job_given (codes "check" ∷ codes "-f" ∷ codes "S" ∷ codes "-f" ∷ codes "T" ∷ codes "C" ∷ []) ≡ None) refl  -- two checked scripts
     ∷ row (job_given (codes "vouch" ∷ codes "-f" ∷ codes "T" ∷ codes "-f" ∷ codes "S" ∷ codes "F" ∷ []) ≡ judge (codes "T" ∷ codes "S" ∷ []) First) refl  -- two judged scripts
+    ∷ row (job_given (codes "vouch" ∷ codes "-f" ∷ codes "T" ∷ codes "-f" ∷ codes "S" ∷ []) ≡ judge_any (codes "T" ∷ codes "S" ∷ []) First) refl  -- two judged scripts and no file
+    ∷ row (job_given (codes "vouch" ∷ codes "-f" ∷ codes "S" ∷ codes "-q" ∷ []) ≡ judge_empty (codes "S" ∷ [])) refl  -- quiet on one and no file
     ∷ row (job_given (codes "vouch" ∷ codes "F" ∷ codes "-fS" ∷ codes "--all" ∷ codes "-fS" ∷ codes "-f=T" ∷ []) ≡ judge (codes "S" ∷ codes "S" ∷ codes "T" ∷ []) Each) refl  -- three, of which two are the same, and all refusals
     ∷ row (job_given (codes "vouch" ∷ codes "-q" ∷ codes "F" ∷ []) ≡ judge [] Nothing) refl  -- quiet on standard input
     ∷ row (job_given (codes "vouch" ∷ codes "-f" ∷ codes "S" ∷ codes "--quiet" ∷ codes "F" ∷ []) ≡ judge (codes "S" ∷ []) Nothing) refl  -- quiet on a file
@@ -274,11 +298,30 @@ words =
     ∷ row (job_given (codes "check" ∷ codes "-q" ∷ codes "C" ∷ []) ≡ None) refl  -- a quiet check
     ∷ row (job_given (codes "edit" ∷ codes "--whole" ∷ codes "F" ∷ []) ≡ edit_whole false) refl  -- replaced whole
     ∷ row (job_given (codes "edit" ∷ codes "F" ∷ codes "--vouched" ∷ codes "--whole" ∷ []) ≡ edit_whole true) refl  -- vouched for, and replaced whole
-    ∷ row (job_given (codes "edit" ∷ codes "--whole" ∷ codes "-n" ∷ codes "F" ∷ []) ≡ rehearsal false None (Some (codes "F"))) refl  -- replaced whole, rehearsed
-    ∷ row (job_given (codes "run" ∷ codes "--whole" ∷ codes "C" ∷ codes "F" ∷ []) ≡ run_whole) refl  -- run, and replaced whole
+    ∷ row (job_given (codes "edit" ∷ codes "--whole" ∷ codes "-n" ∷ codes "F" ∷ []) ≡ edit_so (writing.Never true false)) refl  -- replaced whole, rehearsed
+    ∷ row (job_given (codes "run" ∷ codes "--whole" ∷ codes "C" ∷ codes "F" ∷ []) ≡ run_so (writing.AtTheEnd None)) refl  -- run, and replaced whole
     ∷ row (job_given (codes "edit" ∷ codes "--whole" ∷ codes "--whole" ∷ codes "F" ∷ []) ≡ None) refl  -- whole twice
     ∷ row (job_given (codes "vouch" ∷ codes "--whole" ∷ codes "F" ∷ []) ≡ None) refl  -- vouched whole
     ∷ row (job_given (codes "fits" ∷ codes "--whole" ∷ codes "C" ∷ []) ≡ None) refl  -- fits whole
+    ∷ row (job_given (codes "edit" ∷ codes "--whole" ∷ codes "--backup" ∷ codes ".orig" ∷ codes "F" ∷ []) ≡ edit_so (writing.AtTheEnd (Some (codes ".orig")))) refl  -- replaced whole, and kept
+    ∷ row (job_given (codes "edit" ∷ codes "--backup=-old" ∷ codes "F" ∷ codes "--whole" ∷ []) ≡ edit_so (writing.AtTheEnd (Some (codes "-old")))) refl  -- kept under a name that ends like an option
+    ∷ row (job_given (codes "edit" ∷ codes "--backup" ∷ codes "~" ∷ codes "--whole" ∷ codes "-n" ∷ codes "F" ∷ []) ≡ edit_so (writing.Never true false)) refl  -- kept, rehearsed
+    ∷ row (job_given (codes "run" ∷ codes "--whole" ∷ codes "--backup" ∷ codes "~" ∷ codes "C" ∷ codes "F" ∷ []) ≡ run_so (writing.AtTheEnd (Some (codes "~")))) refl  -- run, and kept
+    ∷ row (job_given (codes "edit" ∷ codes "--backup" ∷ codes ".orig" ∷ codes "F" ∷ []) ≡ None) refl  -- kept, and not replaced whole
+    ∷ row (job_given (codes "edit" ∷ codes "-n" ∷ codes "--backup" ∷ codes ".orig" ∷ codes "F" ∷ []) ≡ None) refl  -- kept, rehearsed, and not replaced whole
+    ∷ row (job_given (codes "run" ∷ codes "--backup" ∷ codes ".orig" ∷ codes "C" ∷ codes "F" ∷ []) ≡ None) refl  -- run and kept, and not replaced whole
+    ∷ row (job_given (codes "edit" ∷ codes "--whole" ∷ codes "--backup" ∷ [] ∷ codes "F" ∷ []) ≡ None) refl  -- kept under its own name
+    ∷ row (job_given (codes "edit" ∷ codes "--whole" ∷ codes "--backup" ∷ codes ".d/F" ∷ codes "F" ∷ []) ≡ None) refl  -- kept in another folder
+    ∷ row (job_given (codes "edit" ∷ codes "--whole" ∷ codes "--backup" ∷ codes "/" ∷ codes "F" ∷ []) ≡ None) refl  -- kept in a folder
+    ∷ row (job_given (codes "edit" ∷ codes "--whole" ∷ codes "--backup" ∷ []) ≡ None) refl  -- kept under no name
+    ∷ row (job_given (codes "edit" ∷ codes "--whole" ∷ codes "--backup" ∷ codes "a" ∷ codes "--backup" ∷ codes "b" ∷ codes "F" ∷ []) ≡ None) refl  -- kept under two names
+    ∷ row (job_given (codes "vouch" ∷ codes "--backup" ∷ codes ".orig" ∷ codes "F" ∷ []) ≡ None) refl  -- vouched and kept
+    ∷ row (job_given (codes "edit" ∷ codes "--unchanged" ∷ codes "F" ∷ []) ≡ edit_so (writing.AtOnce true)) refl  -- spared
+    ∷ row (job_given (codes "edit" ∷ codes "--unchanged" ∷ codes "--whole" ∷ codes "F" ∷ []) ≡ edit_so (writing.AtTheEnd None)) refl  -- spared, as whole files are
+    ∷ row (job_given (codes "edit" ∷ codes "-n" ∷ codes "F" ∷ codes "--unchanged" ∷ []) ≡ edit_so (writing.Never false true)) refl  -- spared, rehearsed
+    ∷ row (job_given (codes "run" ∷ codes "C" ∷ codes "--unchanged" ∷ codes "F" ∷ []) ≡ None) refl  -- run, and spared
+    ∷ row (job_given (codes "edit" ∷ codes "--unchanged" ∷ codes "--unchanged" ∷ codes "F" ∷ []) ≡ None) refl  -- spared twice
+    ∷ row (job_given (codes "check" ∷ codes "--unchanged" ∷ codes "C" ∷ []) ≡ None) refl  -- checked and spared
     ∷ row (job_given (codes "vouch" ∷ codes "--like" ∷ codes "G" ∷ codes "F" ∷ []) ≡ vouch_like false false) refl  -- files like another
     ∷ row (job_given (codes "vouch" ∷ codes "F" ∷ codes "--all" ∷ codes "--like=G" ∷ codes "--patterns" ∷ []) ≡ vouch_like true true) refl  -- files like another, with patterns and all refusals
     ∷ row (job_given (codes "vouch" ∷ codes "--like" ∷ codes "G" ∷ []) ≡ None) refl  -- files like another, and none that is edited

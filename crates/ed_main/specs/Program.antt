@@ -1,11 +1,13 @@
 -- The status that the program ends with, whatever its words, its script and its certificate are, and whatever the files answer (our
 -- choice; where memory ran out or an input isn't read, it is that of the editor's fault).
-use Rattle.std.specs.Prelude.{◌≡◌, ◌⊎◌, ℕ, ◌^◌, Bool, true, false, ◌&&◌, List, Option, None, Some, is_none, IsTrue}
+use Rattle.std.specs.Prelude.{◌≡◌, ◌≢◌, ◌⊎◌, ℕ, ◌^◌, Bool, true, false, ◌&&◌, List, [], codes, nat_eq, Option, None, Some, is_none, if◌then◌else◌, IsTrue}
+use Rattle.std.specs.List.{ends_with}
 use Rattle.ed_base.specs.Fault.{status_of}
 use Rattle.ed_base.specs.declared.fault.Fault.TheVariants as fault
 use Rattle.ed_syntax.specs.declared.options.Options.{Options}
 use Rattle.ed_session.specs.Drives.{Log}
 use Rattle.ed_session.specs.Sinks.{SinkChange}
+use Rattle.rehearsal.specs.Held.{writes_of}
 use Rattle.sources.specs.declared.source.ReadFault.{ReadFault}
 use Rattle.ed_calls.specs.declared.starts.Starts.{Starts}
 use Rattle.ed_calls.specs.Check.{Checks}
@@ -32,7 +34,7 @@ use Rattle.ed_main.specs.declared.writing.Writing.TheVariants as writing
 use Rattle.ed_main.specs.Job.{IsGiven}
 use Rattle.ed_main.specs.Letters.{WithLetters}
 use Rattle.ed_main.specs.Several.{Judges, names_none, status_of_unread}
-use Rattle.ed_main.specs.Wanted.{WithFile, WithStarts}
+use Rattle.ed_main.specs.Wanted.{WithFile, WithStarts, wanted_path}
 
 -- how many bytes of a script, and of a certificate, are read at most
 abbrev pub most_bytes : ℕ
@@ -106,12 +108,23 @@ ComesBy trust.Unchecked script = Edits script
 ComesBy (trust.Certified name certificate) script = RunsOn script certificate.now
 ComesBy (trust.Vouched starts) script = EditsVouched starts script
 
+-- the status of a rehearsal whose run came to one by itself: that of a file that is refused, where one of its writes is hindered
+abbrev pub status_ahead : (ran : ℕ) → (is_hindered : Bool) → ℕ
+status_ahead ran is_hindered = if is_hindered then status_of fault.File else ran
+
+-- a run came to one status by itself, and its rehearsal to another only where it would have written something
+pub record EndsRehearsed (log : Log) (ran status : ℕ) : Type 0 where
+  pub is_hindered : Bool
+  pub some : IsTrue is_hindered → writes_of log ≢ []
+  pub status_is : status ≡ status_ahead ran is_hindered
+  pub rehearsed : Rehearsed log
+
 -- how the writes of a run were made that came to one status by itself, and the program's status then: each was made when it was asked for;
 -- or they were held back until the run had ended; or nothing was written
 abbrev pub AreMade : Writing → Log → (ran status : ℕ) → Type 0
-AreMade writing.AtOnce log ran status = status ≡ ran
-AreMade writing.AtTheEnd log ran status = HeldBack log ran status
-AreMade writing.Never log ran status = (status ≡ ran) × Rehearsed log
+AreMade (writing.AtOnce spares) log ran status = status ≡ ran
+AreMade (writing.AtTheEnd suffix) log ran status = HeldBack log ran status
+AreMade (writing.Never whole spares) log ran status = EndsRehearsed log ran status
 
 -- a run came to this with what it met, and its writes were made so
 abbrev pub Writes : Writing → (Met → ℕ → Type 0) → Met → ℕ → Type 0
@@ -121,9 +134,9 @@ Writes writes Came met status = (ran : ℕ) × (Came met ran × AreMade writes m
 abbrev pub Ran : Task → Log → ℕ → Type 0
 Ran task log status = (met : Met) × ((met.log ≡ log) × ComesBy task.trust task.script.now task.options met status)
 
--- what a task came to with what it met
-abbrev pub Comes : Task → Met → ℕ → Type 0
-Comes task = Writes task.writing (ComesBy task.trust task.script.now task.options)
+-- what a task came to with what it met, whose writes were made so
+abbrev pub Comes : Writing → Task → Met → ℕ → Type 0
+Comes writes task = Writes writes (ComesBy task.trust task.script.now task.options)
 
 -- what a job comes to, for a script of these bytes; a test of a start has none, and scripts in files are read as they are judged
 abbrev pub Does : List ℕ → Job → ℕ → Type 0
@@ -140,8 +153,22 @@ Does script (job.Check path named) = WithFile (λ certificate. Somehow (λ met. 
 Does script (job.Run path options named writes) = WithFile (λ certificate. Somehow (Writes writes (RunsOn script certificate options)))
 Does script (job.Fits certificate path) = WithFile (λ bytes. Somehow (λ met. Fits bytes path met.log met.sink))
 
--- the words weren't understood, the script wasn't read for a job that wants one, or a job was done for a script
+-- a file's name is like that of a script: it ends in `.ed`
+abbrev pub is_named_as_script : Option (List ℕ) → Bool
+is_named_as_script None = false
+is_named_as_script (Some path) = ends_with nat_eq path (codes ".ed")
+
+-- a script is judged that is read from standard input, for a file whose name is like that of a script
+abbrev pub mistakes_script : Job → Bool
+mistakes_script (job.Edit options None writes (Some wanted)) = is_named_as_script options.path
+mistakes_script (job.Vouch wanted None all) = is_named_as_script (wanted_path wanted)
+mistakes_script (job.Judge wanted scripts detail) = names_none scripts && is_named_as_script (wanted_path wanted)
+mistakes_script other = false
+
+-- The words weren't understood; or the script wasn't read for a job that wants one; or it is empty, and the file for which it is judged may be
+-- the script that was meant; or a job was done for a script.
 pub data IsEnding (status : ℕ) : Type 0 where
   refused : (fault : WordsFault) → EndsWords fault status → IsEnding status
   unread : (asked : Job) → IsGiven asked → IsTrue (wants_script asked) → (fault : ReadFault) → status ≡ status_of_unread fault → IsEnding status
+  mistaken : (asked : Job) → IsGiven asked → IsTrue (mistakes_script asked) → status ≡ 4 → IsEnding status
   did : (script : List ℕ) (asked : Job) → IsGiven asked → Does script asked status → IsEnding status

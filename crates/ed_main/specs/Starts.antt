@@ -2,7 +2,7 @@
 use Rattle.std.specs.Prelude.{◌≢◌, List, ℕ, [], Option, Some, None}
 use Rattle.ed_calls.specs.Starts.{AreAllowed, path_of}
 use Rattle.ed_calls.specs.declared.starts.Starts.{Starts}
-use Rattle.ed_calls.specs.declared.starts.Starts.TheVariants.{Given, Widest}
+use Rattle.ed_calls.specs.declared.starts.Starts.TheVariants.{Widest}
 
 -- a path has a byte
 abbrev pub HasBytes : (path : Option (List ℕ)) → Type 0
@@ -13,7 +13,11 @@ pub record AreStarts (starts : Starts) : Type 0 where
   pub allowed : AreAllowed starts
   pub path : HasBytes (path_of starts)
 
--- any start with the file at this path that states these patterns; without a file the buffer is empty, and no start is to be found
+-- how many lines a start may have at most: without a file the buffer is empty
+abbrev pub most_at : (path : Option (List ℕ)) → Option ℕ
+most_at None = Some 0
+most_at (Some path) = None
+
+-- any start with the file at this path, or without one, that states these patterns
 abbrev pub any_start : (path : Option (List ℕ)) → (has : Option (List (List ℕ))) → Starts
-any_start None has = Given (record { path = None; min = 0; max = Some 0; has = has; landmarks = None })
-any_start (Some path) has = Widest (record { path = Some path; min = None; max = None; has = has; landmarks = None })
+any_start path has = Widest (record { path = path; min = None; max = most_at path; has = has; landmarks = None })

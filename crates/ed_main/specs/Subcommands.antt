@@ -20,6 +20,14 @@ vouched = record (new_rule (codes "vouched")) { long = Some (codes "vouched"); a
 abbrev pub whole : Rule
 whole = record (new_rule (codes "whole")) { long = Some (codes "whole"); action = Some SetTrue }
 
+-- `--backup SUFFIX`
+abbrev pub backup : Rule
+backup = record (new_rule (codes "backup")) { long = Some (codes "backup"); action = Some Set; value_names = 1 }
+
+-- `--unchanged`
+abbrev pub unchanged : Rule
+unchanged = record (new_rule (codes "unchanged")) { long = Some (codes "unchanged"); action = Some SetTrue }
+
 -- `-p STRING`
 abbrev pub prompt : Rule
 prompt = record (new_rule (codes "prompt")) { short = Some 112; action = Some Set; value_names = 1 }
@@ -80,9 +88,9 @@ certificate = record notes { required = true }
 abbrev pub subcommand : List ℕ → List Rule → App
 subcommand name takes = on_top (λ s. record s { rules = takes }) (new_app name)
 
--- `edit [--vouched] [--like FILE] [--at CHAIN] [--whole] [-n] [-s] [-p STRING] [-f SCRIPT] [FILE]`
+-- `edit [--vouched] [--like FILE] [--at CHAIN] [--whole] [--backup SUFFIX] [--unchanged] [-n] [-s] [-p STRING] [-f SCRIPT] [FILE]`
 abbrev pub edit : App
-edit = subcommand (codes "edit") (vouched ∷ like ∷ at ∷ whole ∷ rehearsed ∷ silent ∷ prompt ∷ script ∷ file ∷ [])
+edit = subcommand (codes "edit") (vouched ∷ like ∷ at ∷ whole ∷ backup ∷ unchanged ∷ rehearsed ∷ silent ∷ prompt ∷ script ∷ file ∷ [])
 
 -- `vouch [--like FILE] [--min N] [--max M] [--all] [-q] [--patterns] [--has RE] [--at CHAIN] [-f SCRIPT] [FILE]`
 abbrev pub vouch : App
@@ -96,9 +104,9 @@ explain = subcommand (codes "explain") (like ∷ min ∷ max ∷ patterns ∷ ha
 abbrev pub check : App
 check = subcommand (codes "check") (script ∷ certificate ∷ [])
 
--- `run [--whole] [-n] [-s] [-f SCRIPT] CERT [FILE]`
+-- `run [--whole] [--backup SUFFIX] [-n] [-s] [-f SCRIPT] CERT [FILE]`
 abbrev pub run : App
-run = subcommand (codes "run") (whole ∷ rehearsed ∷ silent ∷ script ∷ certificate ∷ file ∷ [])
+run = subcommand (codes "run") (whole ∷ backup ∷ rehearsed ∷ silent ∷ script ∷ certificate ∷ file ∷ [])
 
 -- `fits CERT [FILE]`
 abbrev pub fits : App

@@ -1,7 +1,7 @@
 -- The words that the program is given, as `clap` reads them, and the job that they give (XCU ed, "Synopsis"; our choice: no prompt or file
 -- that reads as an option).
 use Rattle.std.specs.Prelude.{◌≡◌, ◌≢◌, ◌⊎◌, ℕ, Bool, true, false, not, ◌&&◌, ◌||◌, List, [], ◌∷◌, codes, length, nat_eq, nat_lt, Option, Some, None, option_map, unwrap_or, is_none, is_ok, is_some, if◌then◌else◌}
-use Rattle.std.specs.List.{list_all}
+use Rattle.std.specs.List.{list_all, list_any}
 use Rattle.std.specs.Option.{option_map_or}
 use Rattle.std.specs.Char.{digit_value}
 use Rattle.std.specs.Str.{bytes_eq}
@@ -58,14 +58,32 @@ options_in rows = record {
   path = first_of (codes "file") rows;
 }
 
--- when the writes of a run are to be made: never where it is to be rehearsed, else at its end where files are to be replaced whole
-abbrev pub writing_of : (rehearsed whole : Bool) → Writing
-writing_of true whole = writing.Never
-writing_of false true = writing.AtTheEnd
-writing_of false false = writing.AtOnce
+-- When the writes of a run are to be made: never where it is to be rehearsed, else at its end where files are to be replaced whole. There the old
+-- ones may be kept, under names with a suffix. Written at once, files that have the bytes already may be spared.
+abbrev pub writing_of : (rehearsed whole spares : Bool) → (suffix : Option (List ℕ)) → Writing
+writing_of true whole spares suffix = writing.Never whole spares
+writing_of false true spares suffix = writing.AtTheEnd suffix
+writing_of false false spares suffix = writing.AtOnce spares
 
-abbrev pub writing_in : List Row → Writing
-writing_in rows = writing_of (is_given (first_of (codes "rehearsed") rows)) (is_given (first_of (codes "whole") rows))
+-- a suffix leads from a file to another name in its folder: it isn't empty and has no slash
+abbrev pub is_suffix : List ℕ → Bool
+is_suffix text = not (nat_eq (length text) 0) && not (list_any (λ byte. nat_eq byte 47) text)
+
+-- old files may be kept where files are replaced whole
+abbrev pub may_keep : (whole : Bool) → (suffix : Option (List ℕ)) → Bool
+may_keep whole None = true
+may_keep whole (Some suffix) = whole && is_suffix suffix
+
+abbrev pub writing_with : (rehearsed whole spares : Bool) → (suffix : Option (List ℕ)) → Option Writing
+writing_with rehearsed whole spares suffix = elim (may_keep whole suffix) [
+  | true ↦ Some (writing_of rehearsed whole spares suffix)
+  | false ↦ None
+]
+
+abbrev pub writing_in : List Row → Option Writing
+writing_in rows =
+    writing_with (is_given (first_of (codes "rehearsed") rows)) (is_given (first_of (codes "whole") rows))
+    (is_given (first_of (codes "unchanged") rows)) (first_of (codes "backup") rows)
 
 -- a script is only to be run if it is vouched for
 abbrev pub is_to_be_vouched : List Row → Bool
@@ -93,10 +111,10 @@ states_start rows =
 abbrev pub script_in : List Row → Option (List ℕ)
 script_in rows = first_of (codes "script") rows
 
--- the start over which `edit --vouched` judges a script: any with the file at this path and these landmarks, which is found with the patterns
--- that it has to match; or one that is proposed from another file
+-- the start over which `edit --vouched` judges a script: any with the file at this path and these landmarks, which is found as `vouch` finds
+-- it; or one that is proposed from another file
 abbrev pub judged_over : (path like : Option (List ℕ)) → (at : List (List ℕ)) → Wanted
-judged_over path None at = wanted.Stated (any_start path (Some [])) at
+judged_over path None at = wanted.Stated (any_start path None) at
 judged_over path (Some like) at = wanted.Like path true like
 
 -- `edit` judges a script where it is asked to
@@ -113,6 +131,16 @@ may_propose sought path (Some like) = is_some path && (sought && is_path (Some l
 abbrev pub may_have : (path : Option (List ℕ)) → (at : List (List ℕ)) → Bool
 may_have path [] = true
 may_have path (chain ∷ at) = is_some path
+
+-- how many lines the file may have leaves room for one
+abbrev pub has_room : (most : Option (Option ℕ)) → Bool
+has_room (Some (Some most)) = nat_lt 0 most
+has_room other = true
+
+-- patterns that some line matches, where some are given, are those of a file that is named and may have a line
+abbrev pub may_match : (path : Option (List ℕ)) → (most : Option (Option ℕ)) → (has : List (List ℕ)) → Bool
+may_match path most [] = true
+may_match path most (pattern ∷ has) = is_some path && has_room most
 
 -- a file to propose a start from, or landmarks, are given only of a script that is judged, for a file that is named, and not both
 abbrev pub may_judge : (vouched : Bool) → (path like : Option (List ℕ)) → (at : List (List ℕ)) → Bool
@@ -139,12 +167,12 @@ abbrev pub judged_in : (path : Option (List ℕ)) → List Row → Option (Optio
 judged_in path rows = judged_with path (chains_in rows) rows
 
 -- a run with these options
-abbrev pub editing_over : Options → (script : Option (List ℕ)) → Writing → Option (Option Wanted) → Option Job
+abbrev pub editing_over : Options → (script : Option (List ℕ)) → Option Writing → Option (Option Wanted) → Option Job
 editing_over o script writes None = None
-editing_over o script writes (Some judged) = Some (job.Edit o script writes judged)
+editing_over o script writes (Some judged) = option_map (λ w. job.Edit o script w judged) writes
 
 -- where they may be given
-abbrev pub editing : Options → (script : Option (List ℕ)) → Writing → Option (Option Wanted) → Option Job
+abbrev pub editing : Options → (script : Option (List ℕ)) → Option Writing → Option (Option Wanted) → Option Job
 editing o script writes judged = elim (is_prompt o.prompt && (is_path o.path && is_path script)) [
   | true ↦ editing_over o script writes judged
   | false ↦ None
@@ -196,6 +224,10 @@ stated asked (text ∷ texts) = Some (with_texts (text ∷ texts) [])
 stated true [] = Some []
 stated false [] = None
 
+-- these may be stated: they are patterns, and such as may be given
+abbrev pub may_state : (path : Option (List ℕ)) → (most : Option (Option ℕ)) → (has : List (List ℕ)) → Bool
+may_state path most has = may_match path most has && are_patterns has
+
 -- how much is told of a script that isn't vouched for, where something is
 abbrev pub detail_of : (all : Bool) → Detail
 detail_of true = Each
@@ -212,10 +244,10 @@ abbrev pub vouching_of : Wanted → (scripts : List (List ℕ)) → (all quiet :
 vouching_of over scripts all true = job.Judge over scripts Nothing
 vouching_of over scripts all false = telling_of over scripts all
 
--- the start of these bounds, where the low one isn't above the high one, of these patterns, where each is one, and of these landmarks, where
--- they may be given
+-- the start of these bounds, where the low one isn't above the high one, and of these patterns and landmarks, where they may be given and each
+-- pattern is one
 abbrev pub stated_within : (least : Option ℕ) → (most : Option (Option ℕ)) → (path : Option (List ℕ)) → (asked : Bool) → (has at : List (List ℕ)) → Option Wanted
-stated_within least most path asked has at = elim (are_in_order least most && (are_patterns has && may_have path at)) [
+stated_within least most path asked has at = elim (are_in_order least most && (may_state path most has && may_have path at)) [
   | true ↦ Some (wanted.Stated (starts_of path least most (stated asked has)) at)
   | false ↦ None
 ]
@@ -269,10 +301,10 @@ checking None script = None
 checking (Some path) script = elim (is_path (Some path) && is_path script) [ true ↦ Some (job.Check path script) | false ↦ None ]
 
 -- a run of a script that is checked first
-abbrev pub running : Option (List ℕ) → Options → (script : Option (List ℕ)) → Writing → Option Job
+abbrev pub running : Option (List ℕ) → Options → (script : Option (List ℕ)) → Option Writing → Option Job
 running None o script writes = None
 running (Some path) o script writes = elim (is_path (Some path) && (is_path o.path && is_path script)) [
-  | true ↦ Some (job.Run path o script writes)
+  | true ↦ option_map (λ w. job.Run path o script w) writes
   | false ↦ None
 ]
 
@@ -281,7 +313,7 @@ abbrev pub fitting : (certificate path : Option (List ℕ)) → Option Job
 fitting None path = None
 fitting (Some certificate) path = elim (is_path (Some certificate) && is_path path) [ true ↦ Some (job.Fits certificate path) | false ↦ None ]
 
--- the file that a script which is explained without a certificate is for: any, under this name
+-- the file that is meant where a script is explained without a certificate, or several are judged, and none is named: any, under this name
 abbrev pub any_file : Option (List ℕ)
 any_file = Some (codes "FILE")
 
@@ -306,11 +338,16 @@ explaining (Some path) rows = explaining_by path rows
 abbrev pub edit_job : List Row → Option Job
 edit_job rows = editing (options_in rows) (script_in rows) (writing_in rows) (judged_in (first_of (codes "file") rows) rows)
 
+-- the file that scripts are for: several are for any, where none is named, since no certificate is made that would have its name
+abbrev pub file_for : (path : Option (List ℕ)) → (scripts : List (List ℕ)) → Option (List ℕ)
+file_for None (script ∷ next ∷ scripts) = any_file
+file_for path scripts = path
+
 -- the job of `vouch` with these scripts
 abbrev pub vouch_job_of : List Row → (scripts : List (List ℕ)) → Option Job
 vouch_job_of rows scripts =
     let path = first_of (codes "file") rows in
-    vouching_if (is_path path && are_paths scripts) (wanted_in path rows) scripts (shows_all rows) (is_quiet rows)
+    vouching_if (is_path path && are_paths scripts) (wanted_in (file_for path scripts) rows) scripts (shows_all rows) (is_quiet rows)
 
 abbrev pub vouch_job : List Row → Option Job
 vouch_job rows = vouch_job_of rows (texts_in (codes "script") rows)

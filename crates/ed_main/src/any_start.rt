@@ -2,31 +2,25 @@
 ghost use Rattle.std.specs.Prelude.{◌≡◌};
 ghost use Rattle.ed_main.specs.Starts as meaning;
 
-use analyser::Start;
 use ed_base::Bytes;
 use ed_calls::Starts;
 use ed_rules::Texts;
 use hints::Given;
 
 /// Any start with the file at this path that states these patterns, which is found with others that it has to state. Without a file it is
-/// the empty buffer.
+/// the empty buffer, over which a certificate is found in the same way.
 pub fn any_start(path: Option<Bytes>, has: Option<Texts>) -> Starts
     ensures value { result ≡ meaning.any_start path has }
 {
-    match path {
-        None => Starts::Given(Start {
-            path: None,
-            min: 0,
-            max: Some(0),
-            has,
-            landmarks: None,
-        }),
-        Some(path) => Starts::Widest(Given {
-            path: Some(path),
-            min: None,
-            max: None,
-            has,
-            landmarks: None,
-        }),
-    }
+    let max = match path {
+        None => Some(0),
+        Some(_) => None,
+    };
+    Starts::Widest(Given {
+        path,
+        min: None,
+        max,
+        has,
+        landmarks: None,
+    })
 }

@@ -1,14 +1,24 @@
 //! What the program is to do.
 ghost use Rattle.std.specs.Prelude.{◌≡◌};
 ghost use Rattle.std.specs.Option.{option_copied};
-ghost use Rattle.ed_main.specs.Program.{script_named, wants_input};
+ghost use Rattle.ed_main.specs.Program.{is_named_as_script, mistakes_script, script_named, wants_input};
 
 use crate::paths::Paths;
 use crate::wanted::Wanted;
 use crate::writing::Writing;
 use ed_base::Bytes;
-use ed_calls::Detail;
+use ed_calls::{Detail, is_named_as_script};
 use ed_syntax::Options;
+
+/// Whether a file's name is like that of a script.
+fn is_script(path: &Option<Bytes>) -> bool
+    ensures value { result ≡ is_named_as_script path.now }
+{
+    match path {
+        Some(path) => is_named_as_script(path.as_slice()),
+        None => false,
+    }
+}
 
 /// What the program is to do. A script comes from the file at the path `script`, or without one from standard input.
 #[derive(Debug, Drop)]
@@ -87,6 +97,31 @@ impl Job {
                 ..
             }
         )
+    }
+
+    /// Whether a script is judged that is read from standard input, for a file whose name is like that of a script.
+    pub fn mistakes_script(&self) -> bool
+        ensures value { result ≡ mistakes_script self.now }
+    {
+        match self {
+            Job::Edit {
+                options,
+                script: None,
+                judged: Some(_),
+                ..
+            } => is_script(&options.path),
+            Job::Vouch {
+                wanted,
+                script: None,
+                ..
+            } => is_script(wanted.path()),
+            Job::Judge {
+                wanted,
+                scripts,
+                ..
+            } => scripts.are_none() && is_script(wanted.path()),
+            _ => false,
+        }
     }
 
     /// Whether the script is read from standard input.

@@ -3,6 +3,7 @@
 
 mod any_start;
 mod chains;
+mod hindered;
 mod inputs;
 mod job;
 mod letters;
@@ -13,6 +14,7 @@ mod proposing;
 mod several;
 mod stderr;
 mod subcommands;
+mod suffix;
 mod task;
 mod wanted;
 mod whole_files;

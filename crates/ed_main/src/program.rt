@@ -1,5 +1,5 @@
 //! One run of the program: its words, its script, its files, and the status that it ends with.
-ghost use Rattle.std.specs.Prelude.{◌≤◌, ℕ, List, Option, IfOk, IfSome};
+ghost use Rattle.std.specs.Prelude.{◌≤◌, ℕ, List, Option, IfOk, IfSome, IsTrue};
 ghost use Rattle.ed_calls.specs.Check.{Checks};
 ghost use Rattle.ed_calls.specs.Explains.{Explains, ExplainsBy};
 ghost use Rattle.ed_calls.specs.Fits.{Fits};
@@ -7,7 +7,7 @@ ghost use Rattle.ed_calls.specs.Told.{Says};
 ghost use Rattle.ed_calls.specs.Vouch.{Vouches};
 ghost use Rattle.ed_main.specs.Job.{IsGiven};
 ghost use Rattle.ed_main.specs.Letters.{WithLetters};
-ghost use Rattle.ed_main.specs.Program.{Does, Edits, EditsVouched, EndsWords, IsEnding, RunsOn, Somehow, Writes};
+ghost use Rattle.ed_main.specs.Program.{Does, Edits, EditsVouched, EndsWords, IsEnding, RunsOn, Somehow, Writes, mistakes_script};
 ghost use Rattle.ed_main.specs.Several.{Judges};
 ghost use Rattle.ed_main.specs.Starts.{AreStarts};
 ghost use Rattle.ed_main.specs.Wanted.{IsWanted, WithFile, WithStarts};
@@ -19,7 +19,9 @@ use crate::letters::{USAGE_STATUS, refusal_for};
 use crate::paths::Paths;
 use crate::proposing::starts_from;
 use crate::several::judge_scripts;
-use crate::stderr::notes::{show_empty, show_terminal};
+use crate::stderr::notes::{
+    show_empty, show_if_missing, show_mistaken, show_no_file, show_terminal,
+};
 use crate::stderr::usage::{EDIT_USAGE, EXPLAIN_USAGE, USAGE, VOUCH_USAGE};
 use crate::task::{Task, Trust, do_task, files_of};
 use crate::wanted::Wanted;
@@ -43,7 +45,7 @@ pub fn status_of_run<R>(rt: &R) -> u8
 where
     R: Env + Files<File = File> + Input + Print + Eprint + AllocGlobal,
     R::Reader: IsTerminal,
-    ensures status { result ≤ 4 }
+    ensures status { result ≤ 5 }
     ensures ending { IsEnding result }
 {
     match job_of_run(rt) {
@@ -52,10 +54,7 @@ where
             show_terminal(rt, &job, reader.is_terminal());
             let mut input = In::new(reader);
             match script_from(rt, &mut input, &job) {
-                Ok(script) => {
-                    show_empty(rt.alloc(), rt, script.as_slice(), &job);
-                    do_job(rt, script.as_slice(), job)
-                }
+                Ok(script) => do_if_meant(rt, script.as_slice(), job),
                 Err(fault) => refuse_script(rt, &job, fault, input.reason()),
             }
         }
@@ -96,12 +95,36 @@ fn job_of_run<R: Env + AllocGlobal>(rt: &R) -> Result<Job, WordsFault>
     job_of_words(rt.alloc(), words.as_slice())
 }
 
+/// Does a job with the script's bytes, unless its file is the script that was meant.
+fn do_if_meant<R>(rt: &R, script: &[u8], job: Job) -> u8
+where
+    R: Files<File = File> + Print + Eprint + AllocGlobal,
+    requires given { IsGiven job }
+    ensures status { result ≤ 5 }
+    ensures ending { IsEnding result }
+{
+    if is_mistaken(script, &job) {
+        show_mistaken(rt.alloc(), rt, &job);
+        return USAGE_STATUS;
+    }
+    show_empty(rt.alloc(), rt, script, &job);
+    show_no_file(rt, &job);
+    do_job(rt, script, job)
+}
+
+/// Whether a script that is judged is empty, and its file may be the one that was meant.
+fn is_mistaken(script: &[u8], job: &Job) -> bool
+    ensures sound { IsTrue result → IsTrue (mistakes_script job.now) }
+{
+    script.is_empty() && job.mistakes_script()
+}
+
 /// Does a job with the script's bytes.
 fn do_job<R>(rt: &R, script: &[u8], job: Job) -> u8
 where
     R: Files<File = File> + Print + Eprint + AllocGlobal,
     requires given { IsGiven job }
-    ensures status { result ≤ 4 }
+    ensures status { result ≤ 5 }
     ensures did { Does script.now job result }
 {
     match job {
@@ -156,7 +179,7 @@ fn edit_by<R>(
 where
     R: Files<File = File> + Print + Eprint + AllocGlobal,
     requires given { IfSome judged IsWanted }
-    ensures status { result ≤ 4 }
+    ensures status { result ≤ 5 }
     ensures did { (named : Option (List ℕ)) → Does script.now (jobs.Edit options named writing judged) result }
 {
     match judged {
@@ -169,18 +192,15 @@ where
 fn edit_file<R>(rt: &R, script: &[u8], options: Options, writing: Writing) -> u8
 where
     R: Files<File = File> + Print + Eprint + AllocGlobal,
-    ensures status { result ≤ 4 }
+    ensures status { result ≤ 5 }
     ensures came { Somehow (Writes writing (Edits script.now options)) result }
 {
-    do_task(
-        rt,
-        Task {
-            script,
-            options,
-            writing,
-            trust: Trust::Unchecked,
-        },
-    )
+    let task = Task {
+        script,
+        options,
+        trust: Trust::Unchecked,
+    };
+    do_task(rt, task, writing)
 }
 
 /// The same, only if the script is vouched for over the start that is asked for.
@@ -188,7 +208,7 @@ fn edit_wanted<R>(rt: &R, script: &[u8], options: Options, writing: Writing, wan
 where
     R: Files<File = File> + Print + Eprint + AllocGlobal,
     requires given { IsWanted wanted }
-    ensures status { result ≤ 4 }
+    ensures status { result ≤ 5 }
     ensures came { WithStarts wanted (λ starts. WithLetters script.now starts (Somehow (Writes writing (EditsVouched starts script.now options)))) result }
 {
     let mut files = DiskFiles::new(rt.alloc(), rt);
@@ -209,7 +229,7 @@ fn edit_if_lettered<R>(
 where
     R: Files<File = File> + Print + Eprint + AllocGlobal,
     requires given { AreStarts starts }
-    ensures status { result ≤ 4 }
+    ensures status { result ≤ 5 }
     ensures came { WithLetters script.now starts (Somehow (Writes writing (EditsVouched starts script.now options))) result }
 {
     match refusal_for(rt, None, script, &starts, EDIT_USAGE, false) {
@@ -223,18 +243,15 @@ fn edit_over<R>(rt: &R, script: &[u8], options: Options, writing: Writing, start
 where
     R: Files<File = File> + Print + Eprint + AllocGlobal,
     requires given { AreStarts starts }
-    ensures status { result ≤ 4 }
+    ensures status { result ≤ 5 }
     ensures came { Somehow (Writes writing (EditsVouched starts script.now options)) result }
 {
-    do_task(
-        rt,
-        Task {
-            script,
-            options,
-            writing,
-            trust: Trust::Vouched(starts),
-        },
-    )
+    let task = Task {
+        script,
+        options,
+        trust: Trust::Vouched(starts),
+    };
+    do_task(rt, task, writing)
 }
 
 /// Tells the certificate of the script's bytes, or why there is none, over the start that is asked for.
@@ -270,14 +287,19 @@ where
 /// The same over this start, if the script leaves letters for its landmarks.
 fn vouch_if_lettered<R>(rt: &R, script: &[u8], starts: Starts, all: bool) -> u8
 where
-    R: Print + Eprint + AllocGlobal,
+    R: Files<File = File> + Print + Eprint + AllocGlobal,
     requires given { AreStarts starts }
     ensures status { result ≤ 4 }
     ensures came { WithLetters script.now starts (Somehow (λ met. Says (Vouches script.now starts) met.sink)) result }
 {
     match refusal_for(rt, None, script, &starts, VOUCH_USAGE, false) {
         Some(status) => status,
-        None => vouch_file(rt, script, starts, all),
+        None => {
+            if starts.are_sought() {
+                show_if_missing(rt, starts.path());
+            }
+            vouch_file(rt, script, starts, all)
+        }
     }
 }
 
@@ -395,22 +417,21 @@ fn run_file<'a, R>(
 ) -> u8
 where
     R: Files<File = File> + Print + Eprint + AllocGlobal,
-    ensures status { result ≤ 4 }
+    ensures status { result ≤ 5 }
     ensures came { WithFile (λ certificate. Somehow (Writes writing (RunsOn script.now certificate options))) result }
 {
     match bytes_at(rt, name) {
-        Ok(certificate) => do_task(
-            rt,
-            Task {
+        Ok(certificate) => {
+            let task = Task {
                 script,
                 options,
-                writing,
                 trust: Trust::Certified {
                     name,
                     certificate: certificate.as_slice(),
                 },
-            },
-        ),
+            };
+            do_task(rt, task, writing)
+        }
         Err(fault) => status_of_read(fault),
     }
 }
@@ -423,7 +444,7 @@ where
     ensures status { result ≤ 4 }
     ensures came { Somehow (λ met. Fits certificate.now start.now met.log met.sink) result }
 {
-    let mut files = files_of(rt, start);
+    let mut files = files_of(rt, start, false);
     let mut output = Out::new(io::writer(rt));
     let mut aside = Aside::new(rt.alloc(), b"", path.as_slice());
     let status = fit(

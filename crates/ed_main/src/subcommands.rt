@@ -38,6 +38,8 @@ fn edit<'a>(alloc: Global) -> Result<Command<'a>, AllocError>
             like(alloc),
             at(alloc),
             whole(alloc),
+            backup(alloc),
+            unchanged(alloc),
             rehearsed(alloc),
             silent(alloc),
             prompt(alloc),
@@ -117,6 +119,7 @@ fn run<'a>(alloc: Global) -> Result<Command<'a>, AllocError>
         "Example: edv run CERT FILE <script.ed",
         vec![in alloc;
             whole(alloc),
+            backup(alloc),
             rehearsed(alloc),
             silent(alloc),
             script(alloc),
@@ -173,6 +176,27 @@ fn whole<'a>(alloc: Global) -> Arg<'a>
         .long("whole")
         .action(ArgAction::SetTrue)
         .help("Replaces each file that is written whole, when the script has come to its end")
+}
+
+fn backup<'a>(alloc: Global) -> Arg<'a>
+    ensures value { rule_of result ≡ meaning.backup }
+    ensures local { result.global ≡ false }
+{
+    Arg::new(alloc, "backup")
+        .long("backup")
+        .action(ArgAction::Set)
+        .value_name("SUFFIX")
+        .help("Keeps each file that is replaced whole under its name with SUFFIX")
+}
+
+fn unchanged<'a>(alloc: Global) -> Arg<'a>
+    ensures value { rule_of result ≡ meaning.unchanged }
+    ensures local { result.global ≡ false }
+{
+    Arg::new(alloc, "unchanged")
+        .long("unchanged")
+        .action(ArgAction::SetTrue)
+        .help("Leaves a file alone that has the bytes already, as --whole does")
 }
 
 fn rehearsed<'a>(alloc: Global) -> Arg<'a>

@@ -2,12 +2,14 @@
 ghost use Rattle.std.specs.Prelude.{◌≡◌, ◌<◌, ◌≤◌, ◌-◌, ◌^◌};
 ghost use Rattle.ed_session.specs.Drives.{added};
 ghost use Rattle.ed_session.specs.Sinks.{change};
-ghost use Rattle.ed_main.specs.Program.{Comes, ComesBy, IsTrusted, Ran, Somehow};
+ghost use Rattle.ed_main.specs.Program.{Comes, ComesBy, IsTrusted, Ran, Somehow, status_ahead};
 
+use crate::hindered::show_writes;
+use crate::stderr::notes::show_if_missing;
 use crate::whole_files::replace_whole;
 use crate::writing::Writing;
-use ed_base::Bytes;
-use ed_calls::{Aside, Explains, Starts, Watched, edit, edit_vouched, run, show_held};
+use ed_base::{Bytes, Fault};
+use ed_calls::{Aside, Explains, Starts, Watched, edit, edit_vouched, run};
 use ed_session::{DiskFiles, Out, Outside, Sink};
 use ed_syntax::Options;
 use rehearsal::Rehearsal;
@@ -30,12 +32,11 @@ pub enum Trust<'a> {
     Vouched(Starts),
 }
 
-/// A script that is to be run, or whose run is to be rehearsed.
+/// A script that is to be run.
 #[derive(Debug, Drop)]
 pub struct Task<'a> {
     pub script: &'a [u8],
     pub options: Options,
-    pub writing: Writing,
     pub trust: Trust<'a>,
 }
 
@@ -45,6 +46,14 @@ impl<'a> Task<'a> {
         match &self.trust {
             Trust::Unchecked | Trust::Vouched(_) => Aside::new(alloc, self.script, b""),
             Trust::Certified { name, .. } => Aside::new(alloc, self.script, (*name).as_slice()),
+        }
+    }
+
+    /// The path of the file over which the script is judged, where it is and there was memory for it.
+    fn file(&self, alloc: Global) -> Option<Bytes> {
+        match (&self.trust, &self.options.path) {
+            (Trust::Vouched(_), Some(path)) => Bytes::from_slice(alloc, path.as_slice()).ok(),
+            _ => None,
         }
     }
 
@@ -58,7 +67,7 @@ impl<'a> Task<'a> {
     ) -> u8
         requires count { (W.state sink.old).failures < 2 ^ 64 - 1 }
         requires trusted { IsTrusted self.trust }
-        ensures status { result ≤ 4 }
+        ensures status { result ≤ 5 }
 
         // How its writes are made, the files tell.
         ensures came { let log = added (O.log outside.old) (O.log outside.new) in
@@ -89,65 +98,85 @@ impl<'a> Task<'a> {
 }
 
 /// Does a task over the system's files and the standard output, or rehearses it.
-pub fn do_task<R>(rt: &R, task: Task<'_>) -> u8
+pub fn do_task<R>(rt: &R, task: Task<'_>, writing: Writing) -> u8
 where
     R: Files<File = File> + Print + Eprint + AllocGlobal,
     requires trusted { IsTrusted task.trust }
-    ensures status { result ≤ 4 }
-    ensures came { Somehow (Comes task.entry) result }
+    ensures status { result ≤ 5 }
+    ensures came { Somehow (Comes writing task.entry) result }
 {
-    match task.writing {
-        Writing::AtOnce => {
-            let mut files = files_of(rt, &task.options.path);
+    match writing {
+        Writing::AtOnce { spares } => {
+            let mut files = files_of(rt, &task.options.path, spares);
             do_over(rt, task, &mut files)
         }
-        Writing::AtTheEnd => replace_whole(rt, task),
-        Writing::Never => rehearse(rt, task),
+        Writing::AtTheEnd { suffix } => replace_whole(rt, task, suffix),
+        Writing::Never { whole, spares } => rehearse(rt, task, whole, spares),
     }
 }
 
-/// Does a task over the system's files, of which none is written, and shows what would have been.
-fn rehearse<R>(rt: &R, task: Task<'_>) -> u8
+/// Does a task over the system's files, of which none is written, and shows what would have been, and which of them couldn't be: replaced whole
+/// or written in place.
+fn rehearse<R>(rt: &R, task: Task<'_>, whole: bool, spares: bool) -> u8
 where
     R: Files<File = File> + Print + Eprint + AllocGlobal,
-    requires writing { task.writing ≡ Writing.Never }
     requires trusted { IsTrusted task.trust }
-    ensures status { result ≤ 4 }
-    ensures came { Somehow (Comes task.entry) result }
+    ensures status { result ≤ 5 }
+    ensures came { Somehow (Comes (Writing.Never whole spares) task.entry) result }
 {
     let rehearsal = Rehearsal::new(rt.alloc(), DiskFiles::new(rt.alloc(), rt));
     let mut files = Watched::new(rt.alloc(), rehearsal, task.options.path.is_some());
     let status = do_over(rt, task, &mut files);
-    let rehearsal = files.files();
+    let mut rehearsal = files.into_files();
     rehearsal.real_files_are_only_read();
     rehearsal.writes_are_done();
     rehearsal.reads_show_what_was_written();
-    show_held(rt.alloc(), rt, rehearsal.writes());
-    status
+    let is_hindered = show_writes(rt, &mut rehearsal, whole, spares);
+    status_ahead(status, is_hindered)
+}
+
+/// The status of a rehearsal whose run came to this one: one of the writes that would have been made is hindered, or none is.
+fn status_ahead(ran: u8, is_hindered: bool) -> u8
+    ensures value { result ≡ status_ahead ran is_hindered }
+{
+    if is_hindered {
+        Fault::File.status()
+    } else {
+        ran
+    }
 }
 
 /// Does a task over these files and the standard output.
 pub fn do_over<R, O>(rt: &R, task: Task<'_>, files: &mut Watched<O>) -> u8
 where
-    R: Print + Eprint + AllocGlobal,
+    R: Files<File = File> + Print + Eprint + AllocGlobal,
     O: Outside + Explains + Drop,
     requires trusted { IsTrusted task.trust }
-    ensures status { result ≤ 4 }
+    ensures status { result ≤ 5 }
     ensures came { Ran task.entry (added (O.log files.old.files) (O.log files.new.files)) result }
 {
     let mut output = Out::new(io::writer(rt));
     let mut aside = task.aside(rt.alloc());
+    let path = task.file(rt.alloc());
     let status = task.perform(rt.alloc(), files, &mut output, &mut aside);
+    if files.has_no_start() {
+        show_if_missing(rt, &path);
+    }
     files.show_refusal(rt, status);
     aside.show(rt, status);
     status
 }
 
-/// The system's files, watched for a run that starts with the file at this path, if there is one.
-pub fn files_of<'a, R>(rt: &'a R, path: &Option<Bytes>) -> Watched<DiskFiles<&'a R>>
+/// The system's files, watched for a run that starts with the file at this path, if there is one. One that has the bytes already that it is
+/// given is left alone if `spares` is true.
+pub fn files_of<'a, R>(rt: &'a R, path: &Option<Bytes>, spares: bool) -> Watched<DiskFiles<&'a R>>
 where
     R: Files<File = File> + AllocGlobal,
 {
-    let files = DiskFiles::new(rt.alloc(), rt);
+    let files = if spares {
+        DiskFiles::sparing(rt.alloc(), rt)
+    } else {
+        DiskFiles::new(rt.alloc(), rt)
+    };
     Watched::new(rt.alloc(), files, path.is_some())
 }

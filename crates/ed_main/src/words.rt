@@ -7,6 +7,7 @@ ghost use Rattle.ed_main.specs.Job.{IsGiven};
 
 mod editing;
 mod explaining;
+mod keeping;
 mod several;
 mod starts;
 mod texts;
@@ -17,17 +18,20 @@ use crate::stderr::usage::{
     refused,
 };
 use crate::subcommands::program;
-use crate::writing::Writing;
 use clap::ArgMatches;
 use ed_base::Bytes;
 use ed_syntax::Options;
 use editing::edit_job;
 use explaining::explain_job;
-use several::{are_paths, vouching};
+use keeping::writing_in;
+use several::{are_paths, file_for, vouching};
 use starts::wanted_in;
 use std::alloc::{AllocError, AllocFailed, Global};
 use texts::{bytes_of, is_given, is_path, text_of};
 use thiserror::Error;
+
+/// The name of the file that is meant where any is.
+const ANY_FILE: &str = "FILE";
 
 /// Why no job was read.
 #[derive(Debug, Drop, Error)]
@@ -144,15 +148,6 @@ fn job_by_name(alloc: Global, name: &str, given: &ArgMatches<'_>) -> Result<Job,
     }
 }
 
-/// When the writes of a run are to be made.
-fn writing_in(given: &ArgMatches<'_>) -> Writing
-    ensures value { result ≡ meaning.writing_in (rows_of (found_of given.now)) }
-{
-    let rehearsed = is_given(text_of(given, "rehearsed"));
-    let whole = is_given(text_of(given, "whole"));
-    Writing::of(rehearsed, whole)
-}
-
 fn vouch_job(alloc: Global, given: &ArgMatches<'_>) -> Result<Job, WordsFault>
     ensures value { IfOk result (λ job. meaning.vouch_job (rows_of (found_of given.now)) ≡ Some job) }
     ensures only_if_refused { IfErr result (λ fault. fault ≢ WordsFault.Memory → AreHadIn (rows_of (found_of given.now)) →
@@ -181,7 +176,7 @@ fn vouch_job_of(alloc: Global, given: &ArgMatches<'_>, scripts: &[&str]) -> Resu
     if !are_paths(scripts) {
         return Err(WordsFault::of(alloc, NO_SCRIPT, VOUCH_USAGE));
     }
-    let wanted = wanted_in(alloc, given, path, VOUCH_USAGE)?;
+    let wanted = wanted_in(alloc, given, file_for(path, scripts), VOUCH_USAGE)?;
     let all = is_given(text_of(given, "all"));
     let quiet = is_given(text_of(given, "quiet"));
     Ok(vouching(alloc, wanted, scripts, all, quiet)?)
@@ -227,6 +222,7 @@ fn run_job(alloc: Global, given: &ArgMatches<'_>) -> Result<Job, WordsFault>
     if !is_path(script) {
         return Err(WordsFault::of(alloc, NO_SCRIPT, RUN_USAGE));
     }
+    let writing = writing_in(alloc, given, RUN_USAGE)?;
     let options = Options {
         silent: is_given(text_of(given, "silent")),
         prompt: None,
@@ -236,7 +232,7 @@ fn run_job(alloc: Global, given: &ArgMatches<'_>) -> Result<Job, WordsFault>
         certificate,
         options,
         script: bytes_of(alloc, script)?,
-        writing: writing_in(given),
+        writing,
     })
 }
 

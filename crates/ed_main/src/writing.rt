@@ -2,26 +2,30 @@
 ghost use Rattle.std.specs.Prelude.{◌≡◌};
 ghost use Rattle.ed_main.specs.Words.{writing_of};
 
-/// When the writes of a run are made.
-#[derive(Clone, Copy, Debug, PartialEq, Eq)]
+use crate::suffix::Suffix;
+
+/// When the writes of a run are made. Where they spare files, one that has the bytes already that it is given is left alone.
+#[derive(Debug, Drop)]
 pub enum Writing {
     /// Each when it is asked for.
-    AtOnce,
-    /// When the run has ended, each path once: files are replaced whole.
-    AtTheEnd,
-    /// Never: the run is rehearsed.
-    Never,
+    AtOnce { spares: bool },
+    /// When the run has ended, each path once: files are replaced whole, and spared. Where there is a suffix, the old ones are kept under
+    /// their names with it.
+    AtTheEnd { suffix: Option<Suffix> },
+    /// Never: the run is rehearsed, by what files allow that are to be replaced whole, or written in place.
+    Never { whole: bool, spares: bool },
 }
 
 impl Writing {
-    /// When they are made where a run may be asked to be rehearsed, and its files to be replaced whole. One that is rehearsed writes none.
-    pub fn of(rehearsed: bool, whole: bool) -> Writing
-        ensures value { result ≡ writing_of rehearsed whole }
+    /// When they are made where a run may be asked to be rehearsed, its files to be replaced whole, or to be spared, and a suffix may be given for
+    /// the old ones. One that is rehearsed writes none.
+    pub fn of(rehearsed: bool, whole: bool, spares: bool, suffix: Option<Suffix>) -> Writing
+        ensures value { result ≡ writing_of rehearsed whole spares suffix }
     {
         match (rehearsed, whole) {
-            (true, _) => Writing::Never,
-            (false, true) => Writing::AtTheEnd,
-            (false, false) => Writing::AtOnce,
+            (true, _) => Writing::Never { whole, spares },
+            (false, true) => Writing::AtTheEnd { suffix },
+            (false, false) => Writing::AtOnce { spares },
         }
     }
 }

@@ -1,9 +1,10 @@
 //! The commands of a script, each with what is known before it.
 ghost use Rattle.std.specs.Prelude.{◌≡◌, ◌++◌, ◌≤◌, length, map, take, IfOk, OnOk};
 ghost use Rattle.cert_check.specs.Certificates.{note_value};
-ghost use Rattle.ed_calls.specs.Explaining.{explained, explained_by, inner_from, is_before, comes_first, last_three, up_to};
+ghost use Rattle.ed_calls.specs.Explaining.{explained, explained_by, inner_from, last_three, up_to};
 
 use crate::known::Known;
+use crate::places::is_before;
 use cert_check::{Note, Place};
 use ed_rules::KeptState;
 use std::alloc::{AllocError, Global};
@@ -85,23 +86,4 @@ fn count_before(commands: &[Explained], place: Place) -> usize
         }
     }
     commands.len()
-}
-
-/// Whether a place comes before another.
-fn is_before(one: Place, other: Place) -> bool
-    ensures value { result ≡ is_before one other }
-{
-    one.command < other.command
-        || (one.command == other.command && comes_first(one.inner, other.inner))
-}
-
-/// The same of two places at one command.
-fn comes_first(one: Option<usize>, other: Option<usize>) -> bool
-    ensures value { result ≡ comes_first one other }
-{
-    match (one, other) {
-        (None, Some(_)) => true,
-        (Some(one), Some(other)) => one < other,
-        (_, None) => false,
-    }
 }

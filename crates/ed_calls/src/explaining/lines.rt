@@ -1,10 +1,9 @@
 //! The lines that explain commands.
-ghost use Rattle.std.specs.Prelude.{◌≡◌, ◌++◌, map, IfOk, OnOk};
-ghost use Rattle.ed_calls.specs.Explaining.{IsWoven, Woven, inner_text, label, line_at, line_with, on_one_line};
+ghost use Rattle.std.specs.Prelude.{◌≡◌, ◌++◌, IfOk, OnOk};
+ghost use Rattle.ed_calls.specs.Explaining.{Woven, inner_text, line_with, on_one_line};
 
 use crate::explaining::commands::Explained;
 use crate::explaining::words::words_of;
-use cert_check::Place;
 use ed_base::{Bytes, push_number};
 use ed_syntax::{Span, places};
 use std::alloc::{AllocError, Global};
@@ -16,7 +15,7 @@ pub(crate) fn explain_text(
     script: &[u8],
     commands: &[Explained],
 ) -> Result<Bytes, AllocError>
-    ensures woven { IfOk result (IsWoven script.now (map (λ one. one.place) commands.now)) }
+    ensures woven { IfOk result (Woven commands.now) }
 {
     let spans = places(alloc, script)?;
     weave(alloc, script, spans.as_slice(), commands)
@@ -29,42 +28,39 @@ fn weave(
     spans: &[Span],
     commands: &[Explained],
 ) -> Result<Bytes, AllocError>
-    ensures woven { IfOk result (Woven spans.now (map (λ one. one.place) commands.now)) }
+    ensures woven { IfOk result (Woven commands.now) }
 {
     let mut text = Bytes::new(alloc);
     for command in commands {
         let words = words_of(alloc, script, spans, command.place, &command.known)?;
-        push_line(&mut text, spans, command.place, words.as_bytes())?;
+        let line = line_at(spans, command.place.command);
+        push_line(&mut text, line, command.place.inner, words.as_bytes())?;
     }
     Ok(text)
 }
 
-/// Adds the line of a command with these words.
-fn push_line(text: &mut Bytes, spans: &[Span], place: Place, words: &[u8]) -> Result<(), AllocError>
-    ensures added { OnOk result (text.new ≡ text.old ++ line_with spans.now place (on_one_line words.now)) }
-{
-    push_label(text, spans, place)?;
-    text.extend_from_slice(b": ")?;
-    push_words(text, words)?;
-    text.push(b'\n')
-}
-
-/// Adds what the line of a command begins with.
-fn push_label(text: &mut Bytes, spans: &[Span], place: Place) -> Result<(), AllocError>
-    ensures added { OnOk result (text.new ≡ text.old ++ label spans.now place) }
-{
-    push_number(text, line_at(spans, place.command) as u64)?;
-    push_inner(text, place.inner)
-}
-
 /// The number of the line on which a command begins.
-fn line_at(spans: &[Span], command: usize) -> usize
-    ensures value { result ≡ line_at spans.now command }
-{
+fn line_at(spans: &[Span], command: usize) -> usize {
     match spans.get(command.saturating_sub(1)) {
         Some(span) => span.line,
         None => command,
     }
+}
+
+/// Adds the line of a command that begins on this line of the script, with these words.
+fn push_line(
+    text: &mut Bytes,
+    line: usize,
+    inner: Option<usize>,
+    words: &[u8],
+) -> Result<(), AllocError>
+    ensures added { OnOk result (text.new ≡ text.old ++ line_with line inner (on_one_line words.now)) }
+{
+    push_number(text, line as u64)?;
+    push_inner(text, inner)?;
+    text.extend_from_slice(b": ")?;
+    push_words(text, words)?;
+    text.push(b'\n')
 }
 
 /// Adds a command's number in a list, if it is in one.

@@ -6,13 +6,15 @@ use crate::placed::Missed;
 use crate::starts::Starts;
 use crate::stderr::command_line::quoted;
 use crate::stderr::file_name::{shell_option, shell_word, start_name};
-use crate::stderr::found::{found, sought};
+use crate::stderr::found::{by_numbers, found, note_of, sought};
 use crate::stderr::hinted::{hinted, unusable};
 use crate::stderr::letters::too_few;
 use crate::stderr::missed::landmark_missed;
 use crate::stderr::stopped::{stopped, stopped_in_list};
 use crate::stderr::unread::unread;
-use crate::stderr::written::{person_lines, tool_lines};
+use crate::stderr::unreadable::{is_told, unread_command};
+use crate::stderr::wanted::Wanted;
+use crate::stderr::written::{person_lines, person_remark, tool_lines, tool_remark};
 use analyser::{Analysis, Start};
 use cert_check::{CertFault, Certificate, Place, Verdict, Version};
 use ed_base::{Bytes, Fault, count_lines};
@@ -21,7 +23,9 @@ use ed_syntax::{Answer, Ending, Script};
 use hints::{Said, ToldLine};
 use landmarks::LandmarkChain;
 use line_store::LineStore;
+use remarks::{Remarked, remarks};
 use std::alloc::{AllocError, Global};
+use std::mem;
 
 /// The status of a job that was done.
 const DONE_STATUS: u8 = 0;
@@ -32,6 +36,9 @@ const FAULT_STATUS: u8 = 1;
 /// The status of a start that the certificate doesn't allow.
 const OUTSIDE_STATUS: u8 = 4;
 
+/// The same where the certificate was made for the run.
+const UNFIT_STATUS: u8 = 5;
+
 /// What a person is told, gathered while a job is done and shown after its output. That for which there is no memory is left out.
 #[derive(Drop)]
 pub struct Aside<'a> {
@@ -39,7 +46,11 @@ pub struct Aside<'a> {
     script: &'a [u8],
     // The name of the certificate's file, where the job has one.
     certificate: &'a [u8],
+    // What is said of a start that isn't one over which the script is vouched for, where it is to be run over those alone.
+    wanted: Option<Wanted>,
     told: Vec<ToldLine>,
+    // What the script shows that is hardly meant.
+    remarked: Vec<Remarked>,
 }
 
 impl<'a> Aside<'a> {
@@ -49,13 +60,18 @@ impl<'a> Aside<'a> {
             alloc,
             script,
             certificate,
+            wanted: None,
             told: Vec::new(alloc),
+            remarked: Vec::new(alloc),
         }
     }
 
     /// Shows the lines where the job ended with a status that they explain.
     pub fn show(&self, rt: &impl Eprint, status: u8) {
-        if matches!(status, DONE_STATUS | FAULT_STATUS | OUTSIDE_STATUS) {
+        if matches!(
+            status,
+            DONE_STATUS | FAULT_STATUS | OUTSIDE_STATUS | UNFIT_STATUS
+        ) {
             let _ = rt.eprint(self.lines().as_str());
         }
     }
@@ -71,6 +87,9 @@ impl<'a> Aside<'a> {
         for told in self.told.as_slice() {
             push_lines(&mut lines, person_lines(self.alloc, told));
         }
+        for remarked in self.remarked.as_slice() {
+            push_lines(&mut lines, person_remark(self.alloc, *remarked));
+        }
         lines
     }
 
@@ -79,6 +98,9 @@ impl<'a> Aside<'a> {
         let mut lines = String::new(self.alloc);
         for told in self.told.as_slice() {
             push_lines(&mut lines, tool_lines(self.alloc, name, told));
+        }
+        for remarked in self.remarked.as_slice() {
+            push_lines(&mut lines, tool_remark(self.alloc, name, *remarked));
         }
         lines
     }
@@ -96,9 +118,16 @@ impl<'a> Aside<'a> {
         }
     }
 
-    /// A command, whose number counts from 1, names a file by what isn't UTF-8.
-    pub fn unusable(&mut self, number: usize) {
-        if let Ok(Some(told)) = unusable(self.alloc, self.script, number) {
+    /// What the script shows that is hardly meant, whatever is said of it.
+    pub(crate) fn remark(&mut self) {
+        if let Ok(remarked) = remarks(self.alloc, self.script) {
+            self.remarked = remarked;
+        }
+    }
+
+    /// The command at this place asks for a file by what isn't UTF-8.
+    pub fn unusable(&mut self, place: Place) {
+        if let Ok(Some(told)) = unusable(self.alloc, self.script, place) {
             self.add(Ok(told));
         }
     }
@@ -108,20 +137,63 @@ impl<'a> Aside<'a> {
         self.add(found(self.alloc, script, start, unbounded));
     }
 
+    /// The script is vouched for over a start, and is to be run over a file only where that is one of it. Where `unbounded` is true, nothing was
+    /// given of its number of lines.
+    pub(crate) fn to_be_run(&mut self, script: &Script, start: &Start, unbounded: bool) {
+        self.wanted = Wanted::of(self.alloc, start).ok();
+        if let Some(note) = by_numbers(script, unbounded) {
+            self.say(note_of(self.alloc, note));
+        }
+    }
+
+    /// That a start isn't one that is allowed: what was wanted, where that is known, what the start has, and what to do.
+    fn other_start(&mut self, found: Result<String, AllocError>) {
+        let Ok(found) = found else {
+            return;
+        };
+        match mem::replace(&mut self.wanted, None) {
+            Some(wanted) => self.add(wanted.told(self.alloc, found)),
+            None => self.say(Ok(Said::Error(found))),
+        }
+    }
+
     /// The script isn't vouched for over a start. Where `least_sought` is true, its least number of lines isn't given, and it has as many as
-    /// there may be. Where `all` is true, each later place that may fail is told too.
-    pub fn cannot(&mut self, start: &Start, analysis: &Analysis, least_sought: bool, all: bool)
+    /// there may be. The file is the one that it is proposed from, if it is, and each start that is hinted allows it. Where `all` is true, each
+    /// later place that may fail is told too.
+    pub fn cannot(
+        &mut self,
+        start: &Start,
+        analysis: &Analysis,
+        file: Option<&Bytes>,
+        least_sought: bool,
+        all: bool,
+    )
         requires allowed { IsAllowed start.now }
     {
         let told = if least_sought {
             sought(self.alloc, self.script, start, analysis, all)
         } else {
-            hinted(self.alloc, self.script, start, analysis, all)
+            hinted(self.alloc, self.script, start, analysis, file, all)
         };
         if let Ok(told) = told {
-            let mut told = told;
-            let _ = self.told.append(&mut told);
+            self.add_each(told);
         }
+    }
+
+    /// What is told of the commands of a script that isn't vouched for. That one of them can't be read comes first.
+    fn add_each(&mut self, told: Vec<ToldLine>) {
+        let mut told = told;
+        if let Ok(Some(unread)) = unread_command(self.alloc, self.script) {
+            let comes_first = match told.first() {
+                Some(one) => is_told(one, &unread),
+                None => false,
+            };
+            if !comes_first {
+                told.retain(|one| !is_told(one, &unread));
+                self.add(Ok(unread));
+            }
+        }
+        let _ = self.told.append(&mut told);
     }
 
     /// How a run ended of a script that has so many commands: where it stopped, if the script is at fault.
@@ -162,17 +234,17 @@ impl<'a> Aside<'a> {
 
     /// The start has another path than the certificate's.
     pub fn other_path(&mut self, certificate: &Certificate, path: &Option<Bytes>) {
-        self.say(other_path(self.alloc, certificate, path));
+        self.other_start(other_path(self.alloc, certificate, path));
     }
 
     /// The start has a number of lines that the certificate doesn't allow.
     pub fn other_size(&mut self, certificate: &Certificate, path: &Option<Bytes>, start: &Answer) {
-        self.say(other_size(self.alloc, certificate, path, start));
+        self.other_start(other_size(self.alloc, certificate, path, start));
     }
 
     /// The start has no line that matches a pattern which the certificate states.
     pub fn unmatched(&mut self, path: &Option<Bytes>, pattern: &Bytes) {
-        self.say(unmatched(self.alloc, path, pattern.as_slice()));
+        self.other_start(unmatched(self.alloc, path, pattern.as_slice()));
     }
 
     /// The script leaves too few letters for the landmarks that are given.
@@ -182,7 +254,7 @@ impl<'a> Aside<'a> {
 
     /// The start doesn't have the landmarks of a chain that the certificate states.
     pub(crate) fn missed(&mut self, path: &Option<Bytes>, missed: &Missed<'_>) {
-        self.say(landmark_missed(self.alloc, path, missed));
+        self.other_start(landmark_missed(self.alloc, path, missed));
     }
 }
 
@@ -296,13 +368,12 @@ fn other_path(
     alloc: Global,
     certificate: &Certificate,
     path: &Option<Bytes>,
-) -> Result<Said, AllocError> {
+) -> Result<String, AllocError> {
     let wanted = start_name(alloc, &certificate.path)?;
     let given = start_name(alloc, path)?;
     let wanted = wanted.as_str();
     let given = given.as_str();
-    let text = format!(in alloc; "the certificate is for {wanted}, not {given}")?;
-    Ok(Said::Error(text))
+    Ok(format!(in alloc; "the certificate is for {wanted}, not {given}")?)
 }
 
 fn other_size(
@@ -310,7 +381,7 @@ fn other_size(
     certificate: &Certificate,
     path: &Option<Bytes>,
     start: &Answer,
-) -> Result<Said, AllocError> {
+) -> Result<String, AllocError> {
     let count = match start {
         Answer::Bytes(bytes) => count_lines(bytes.as_slice()),
         _ => 0,
@@ -320,17 +391,15 @@ fn other_size(
     let lines = if count == 1 { "line" } else { "lines" };
     let allowed = allowed_text(alloc, certificate.min, certificate.max)?;
     let allowed = allowed.as_str();
-    let text = format!(in alloc; "{name} has {count} {lines}, and {allowed}")?;
-    Ok(Said::Error(text))
+    Ok(format!(in alloc; "{name} has {count} {lines}, and {allowed}")?)
 }
 
-fn unmatched(alloc: Global, path: &Option<Bytes>, pattern: &[u8]) -> Result<Said, AllocError> {
+fn unmatched(alloc: Global, path: &Option<Bytes>, pattern: &[u8]) -> Result<String, AllocError> {
     let name = start_name(alloc, path)?;
     let name = name.as_str();
     let pattern = quoted(alloc, pattern)?;
     let pattern = pattern.as_str();
-    let text = format!(in alloc; "{name}: no line matches {pattern}")?;
-    Ok(Said::Error(text))
+    Ok(format!(in alloc; "{name}: no line matches {pattern}")?)
 }
 
 /// How many lines are allowed.

@@ -1,6 +1,7 @@
 //! The line of a script that a command begins on, as a person reads it.
 
 use crate::stderr::shown::{escaped, shown};
+use cert_check::Place;
 use ed_base::next_line;
 use ed_syntax::{Span, list_places, places};
 use std::alloc::{AllocError, Global};
@@ -26,6 +27,30 @@ pub fn line_of_command(
         Some(span) => Ok(Some(CommandLine {
             number: span.line,
             text: quoted(alloc, first_line(script, *span))?,
+        })),
+        None => Ok(None),
+    }
+}
+
+/// The line that the command at a place begins on, with the command of a list alone. None where the script has no such command.
+pub fn line_at_place(
+    alloc: Global,
+    script: &[u8],
+    place: Place,
+) -> Result<Option<CommandLine>, AllocError> {
+    let Some(inner) = place.inner else {
+        return line_of_command(alloc, script, place.command);
+    };
+    let spans = places(alloc, script)?;
+    let Some(global) = spans.get(place.command.wrapping_sub(1)) else {
+        return Ok(None);
+    };
+    let command = between(script, *global);
+    let listed = list_places(alloc, command)?;
+    match listed.get(inner.wrapping_sub(1)) {
+        Some(span) => Ok(Some(CommandLine {
+            number: global.line.saturating_add(span.line.saturating_sub(1)),
+            text: quoted(alloc, first_line(command, *span))?,
         })),
         None => Ok(None),
     }

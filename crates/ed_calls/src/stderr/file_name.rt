@@ -1,21 +1,23 @@
 //! The name of a file, as a person reads it.
+ghost use Rattle.std.specs.Prelude.{◌≡◌, codes, nat_eq};
+ghost use Rattle.std.specs.List.{ends_with};
 
-use crate::stderr::shown::{escaped, shown};
+use crate::stderr::shown::{escaped, is_hidden, shown};
 use ed_base::Bytes;
 use std::alloc::{AllocError, Global};
 
 /// What the name of a script ends in, by custom.
 const SCRIPT: &[u8] = b".ed";
 
-/// The front of a name between double quotes. Bytes that would end the line, or aren't text, are escaped.
+/// The front of a name between double quotes. Bytes that would end the line, aren't text, or can't be seen, are escaped.
 pub fn quoted_name(alloc: Global, path: &[u8]) -> Result<String, AllocError> {
     match str::from_utf8(path) {
-        Ok(text) => {
+        Ok(text) if !text.chars().any(is_hidden) => {
             let front = shown(alloc, text)?;
             let front = front.as_str();
             Ok(format!(in alloc; "{front:?}")?)
         }
-        Err(_) => {
+        _ => {
             let front = escaped(alloc, path)?;
             let front = front.as_str();
             Ok(format!(in alloc; "\"{front}\"")?)
@@ -66,7 +68,9 @@ pub fn quoted_word(alloc: Global, path: &[u8]) -> Result<String, AllocError> {
 }
 
 /// Whether a file's name is like that of a script.
-pub fn is_named_as_script(path: &[u8]) -> bool {
+pub fn is_named_as_script(path: &[u8]) -> bool
+    ensures value { result ≡ ends_with nat_eq path.now (codes ".ed") }
+{
     path.ends_with(SCRIPT)
 }
 
@@ -77,5 +81,5 @@ fn is_plain(byte: &u8) -> bool {
 
 /// Whether a character may not stand between single quotes in one line.
 fn is_strange(character: char) -> bool {
-    character == '\'' || character.is_control()
+    character == '\'' || character.is_control() || is_hidden(character)
 }

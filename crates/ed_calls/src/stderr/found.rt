@@ -2,9 +2,10 @@
 ghost use Rattle.hints.specs.Passing.{IsAllowed};
 
 use crate::stderr::hinted::hinted;
+use crate::stderr::wanted::start_lines;
 use analyser::{Analysis, Start, analyse};
 use ed_syntax::{Script, read_script};
-use hints::{Said, ToldLine, copy_of, is_by_numbers, plain_start, start_words};
+use hints::{Said, ToldLine, copy_of, names_later_lines, plain_start};
 use std::alloc::{AllocError, Global};
 
 /// What is told of a script that takes lines by their numbers, for files of any length.
@@ -18,13 +19,31 @@ pub fn found(
     start: &Start,
     unbounded: bool,
 ) -> Result<ToldLine, AllocError> {
-    let words = start_words(alloc, start)?;
-    let mut told = ToldLine::of_said(alloc, 1, Said::VouchedFor(words))?;
-    if unbounded && is_by_numbers(script) {
-        told.more
-            .push(Said::Note(String::from_str(alloc, BY_NUMBERS)?))?;
+    let mut told = ToldLine {
+        line: 1,
+        failure: None,
+        more: Vec::new(alloc),
+    };
+    for line in start_lines(alloc, start)? {
+        told.more.push(Said::VouchedFor(line))?;
+    }
+    if let Some(note) = by_numbers(script, unbounded) {
+        told.more.push(note_of(alloc, note)?)?;
     }
     Ok(told)
+}
+
+/// What is told of a script that takes lines by their numbers, where nothing was given of how many there are.
+pub fn by_numbers(script: &Script, unbounded: bool) -> Option<&'static str> {
+    if unbounded && names_later_lines(script) {
+        Some(BY_NUMBERS)
+    } else {
+        None
+    }
+}
+
+pub fn note_of(alloc: Global, text: &str) -> Result<Said, AllocError> {
+    Ok(Said::Note(String::from_str(alloc, text)?))
 }
 
 /// Why no start was found for a script, where no least number of lines is given. It isn't vouched for over this one, the fullest, and that is
@@ -44,5 +63,5 @@ pub fn sought(
     let plain = plain_start(alloc, script, start, *place, *why)?;
     let read = read_script(alloc, script)?;
     let analysis = analyse(&read, copy_of(&plain)?)?;
-    hinted(alloc, script, &plain, &analysis, all)
+    hinted(alloc, script, &plain, &analysis, None, all)
 }

@@ -4,7 +4,6 @@ use crate::placed::Missed;
 use crate::stderr::command_line::quoted;
 use crate::stderr::file_name::start_name;
 use ed_base::Bytes;
-use hints::Said;
 use landmarks::{Landmark, Misfit, Which};
 use std::alloc::{AllocError, Global};
 
@@ -13,7 +12,7 @@ pub(crate) fn landmark_missed(
     alloc: Global,
     path: &Option<Bytes>,
     missed: &Missed<'_>,
-) -> Result<Said, AllocError> {
+) -> Result<String, AllocError> {
     let name = start_name(alloc, path)?;
     let name = name.as_str();
     let wrong = &missed.wrong;
@@ -24,7 +23,7 @@ pub(crate) fn landmark_missed(
         None => String::from_str(alloc, "a landmark is missing")?,
     };
     let reason = reason.as_str();
-    Ok(Said::Error(format!(in alloc; "{name}: {reason}")?))
+    Ok(format!(in alloc; "{name}: {reason}")?)
 }
 
 /// That a line is below the landmark before the one at a place of a chain, with the pattern by which that is looked for. The first one has

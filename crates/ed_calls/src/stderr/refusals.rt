@@ -118,6 +118,11 @@ impl<O: Outside + Explains + Drop> Watched<O> {
         &self.files
     }
 
+    /// Whether the file of the start was to be read, and wasn't.
+    pub fn has_no_start(&self) -> bool {
+        self.starts
+    }
+
     /// The files, watched no more.
     pub fn into_files(self) -> O
         ensures value { result ≡ self.files }
@@ -214,7 +219,7 @@ fn file_text(
 }
 
 /// Shows in one line that the file of the start isn't there.
-fn show_missing(alloc: Global, rt: &impl Eprint, path: &[u8]) {
+pub fn show_missing(alloc: Global, rt: &impl Eprint, path: &[u8]) {
     if let Ok(line) = missing_text(alloc, path) {
         let _ = rt.eprint(line);
     }

@@ -1,4 +1,4 @@
-//! As much of a script, a pattern or a name as a line shows, and as much of a line as is shown.
+//! As much of a script, a pattern or a name as a line shows, and as much of a line as is shown. What nobody can see is shown by its bytes.
 
 use std::alloc::{AllocError, Global};
 
@@ -8,7 +8,10 @@ const MOST_SHOWN: usize = 100;
 /// How many bytes of a line are shown at most.
 const MOST_OF_A_LINE: usize = 500;
 
-/// The front of a text, as much of it as is shown, and `..` where more comes.
+/// How many bytes a byte takes that is escaped, as `\xef`.
+const ESCAPE_LEN: usize = 4;
+
+/// The front of a text, as much of it as is shown, and `..` where more comes. What can't be seen is escaped.
 pub fn shown(alloc: Global, text: &str) -> Result<String, AllocError> {
     front(alloc, text, MOST_SHOWN)
 }
@@ -27,7 +30,7 @@ pub fn escaped(alloc: Global, bytes: &[u8]) -> Result<String, AllocError> {
     Ok(front)
 }
 
-/// These lines, each cut where it is longer than is shown.
+/// These lines, each cut where it is longer than is shown. What can't be seen is escaped.
 pub fn shown_lines(alloc: Global, lines: &str) -> Result<String, AllocError> {
     let mut fronts = String::new(alloc);
     for line in lines.lines() {
@@ -41,11 +44,64 @@ pub fn shown_lines(alloc: Global, lines: &str) -> Result<String, AllocError> {
 fn front(alloc: Global, text: &str, most: usize) -> Result<String, AllocError> {
     let mut front = String::new(alloc);
     for character in text.chars() {
-        if front.len().saturating_add(character.len_utf8()) > most {
+        let len = shown_len(character);
+        if front.len().saturating_add(len) > most {
             front.push_str("..")?;
             return Ok(front);
         }
-        front.push(character)?;
+        push_shown(alloc, &mut front, character)?;
     }
     Ok(front)
+}
+
+/// How many bytes a character takes in a line.
+fn shown_len(character: char) -> usize {
+    let len = character.len_utf8();
+    if is_hidden(character) {
+        len.saturating_mul(ESCAPE_LEN)
+    } else {
+        len
+    }
+}
+
+/// Appends a character, or the bytes of one that nobody can see.
+fn push_shown(alloc: Global, line: &mut String, character: char) -> Result<(), AllocError> {
+    if !is_hidden(character) {
+        line.push(character)?;
+        return Ok(());
+    }
+    let mut one = String::new(alloc);
+    one.push(character)?;
+    let escape = format!(in alloc; "{}", one.as_str().as_bytes().escape_ascii())?;
+    line.push_str(escape.as_str())?;
+    Ok(())
+}
+
+/// Whether nobody can see a character, or tell it from another, or whether it turns the order of those about it: a blank that isn't a space, a
+/// mark of direction, and what else formats a text. Control characters are seen to before.
+pub fn is_hidden(character: char) -> bool {
+    matches!(
+        character,
+        '\u{a0}'
+            | '\u{ad}'
+            | '\u{34f}'
+            | '\u{600}'..='\u{605}'
+            | '\u{61c}'
+            | '\u{6dd}'
+            | '\u{70f}'
+            | '\u{115f}'..='\u{1160}'
+            | '\u{1680}'
+            | '\u{17b4}'..='\u{17b5}'
+            | '\u{180b}'..='\u{180f}'
+            | '\u{2000}'..='\u{200f}'
+            | '\u{2028}'..='\u{202f}'
+            | '\u{205f}'..='\u{206f}'
+            | '\u{3000}'
+            | '\u{3164}'
+            | '\u{fe00}'..='\u{fe0f}'
+            | '\u{feff}'
+            | '\u{ffa0}'
+            | '\u{fff0}'..='\u{fffb}'
+            | '\u{e0000}'..='\u{e0fff}'
+    )
 }

@@ -2,6 +2,7 @@
 
 use crate::stderr::command_line::{CommandLine, Listed, line_in_list, line_of_command};
 use crate::stderr::reasons::reason_at;
+use crate::stderr::unreadable::push_words;
 use ed_base::{Fault, count_lines};
 use hints::{Failure, Said, ShownCommand, ToldLine};
 use std::alloc::{AllocError, Global};
@@ -44,7 +45,11 @@ pub fn stopped(
         Some(CommandLine { number: line, text }) => {
             let mut failure = failure_at(text, fault);
             failure.reason = reason_at(alloc, script, number, fault)?;
-            Ok(ToldLine::of_failure(alloc, line, failure))
+            let mut told = ToldLine::of_failure(alloc, line, failure);
+            if fault == Fault::Syntax {
+                push_words(alloc, &mut told, script, number)?;
+            }
+            Ok(told)
         }
         None => end_stopped(alloc, script, number.saturating_sub(1), fault),
     }

@@ -1,7 +1,8 @@
 //! What is told of a script as lines: in the form for a person, and in the one in which tools read them, `NAME:LINE: ` and what is said.
 
-use crate::stderr::shown::shown_lines;
+use crate::stderr::shown::{is_hidden, shown_lines};
 use hints::{Failure, Said, ShownCommand, ToldLine};
+use remarks::Remarked;
 use std::alloc::{AllocError, Global};
 
 /// The lines for a person.
@@ -34,12 +35,32 @@ pub fn tool_lines(alloc: Global, name: &[u8], told: &ToldLine) -> Result<String,
     Ok(named)
 }
 
-/// A name as it was given, in one line: bytes that would end it, or aren't text, are escaped.
+/// The line for a person of a remark.
+pub fn person_remark(alloc: Global, remarked: Remarked) -> Result<String, AllocError> {
+    let (line, words) = (remarked.line, remarked.slip.words());
+    let text = format!(in alloc; "note: line {line}: {words}")?;
+    shown_lines(alloc, text.as_str())
+}
+
+/// The line for tools of a remark.
+pub fn tool_remark(alloc: Global, name: &[u8], remarked: Remarked) -> Result<String, AllocError> {
+    let name = one_line(alloc, name)?;
+    let name = name.as_str();
+    let (line, words) = (remarked.line, remarked.slip.words());
+    Ok(format!(in alloc; "{name}:{line}: note: {words}\n")?)
+}
+
+/// A name as it was given, in one line: bytes that would end it, aren't text, or can't be seen, are escaped.
 fn one_line(alloc: Global, name: &[u8]) -> Result<String, AllocError> {
     match str::from_utf8(name) {
-        Ok(text) if !text.chars().any(char::is_control) => String::from_str(alloc, text),
+        Ok(text) if !text.chars().any(is_strange) => String::from_str(alloc, text),
         _ => Ok(format!(in alloc; "{}", name.escape_ascii())?),
     }
+}
+
+/// Whether a name is escaped that has this character.
+fn is_strange(character: char) -> bool {
+    character.is_control() || is_hidden(character)
 }
 
 fn error_text(alloc: Global, line: usize, failure: &Failure) -> Result<String, AllocError> {

@@ -1,8 +1,14 @@
-//! What a person is told of a script that is typed, and of an empty one. No clause speaks of these lines.
+//! What a person is told of a script that is typed, of an empty one, and of a job without a file. No clause speaks of these lines.
 
 use crate::job::Job;
-use ed_calls::{is_named_as_script, quoted_word, shown_lines};
+use crate::stderr::usage::{EDIT_USAGE, VOUCH_USAGE};
+use crate::wanted::Wanted;
+use ed_base::Bytes;
+use ed_calls::{is_named_as_script, quoted_word, show_missing, shown_lines};
 use std::alloc::{AllocError, Global};
+use std::fs;
+use std::io::ErrorKind;
+use std::rt::Files;
 
 /// Shows that the script of a job comes from a terminal, where it does: else nobody would know what the program waits for.
 pub fn show_terminal(rt: &impl Eprint, job: &Job, is_terminal: bool) {
@@ -30,16 +36,69 @@ pub fn show_empty(alloc: Global, rt: &impl Eprint, script: &[u8], job: &Job) {
     }
 }
 
+/// Shows that the script is empty that was to be judged for a file, and that this may be the one that was meant.
+pub fn show_mistaken(alloc: Global, rt: &impl Eprint, job: &Job) {
+    if job.is_quiet() {
+        return;
+    }
+    if let Some(file) = file_of(job) {
+        if let Ok(wrong) = mistaken_text(alloc, file) {
+            let _ = rt.eprint(wrong);
+        }
+    }
+    let _ = rt.eprint(match job {
+        Job::Edit { .. } => EDIT_USAGE,
+        _ => VOUCH_USAGE,
+    });
+}
+
+fn mistaken_text(alloc: Global, file: &[u8]) -> Result<String, AllocError> {
+    let file = quoted_word(alloc, file)?;
+    let file = file.as_str();
+    let wrong = format!(in alloc; "error: the script is empty; did you mean -f {file}?")?;
+    shown_lines(alloc, wrong.as_str())
+}
+
+/// Shows that a script is judged over an empty buffer, where no file is named and nothing else is given of one.
+pub fn show_no_file(rt: &impl Eprint, job: &Job) {
+    let wanted = match job {
+        Job::Edit {
+            judged: Some(wanted),
+            ..
+        } => wanted,
+        Job::Vouch { wanted, .. } => wanted,
+        _ => return,
+    };
+    if let Wanted::Stated(starts, _) = wanted {
+        if starts.are_empty() {
+            let _ = rt.eprint("note: no FILE: over an empty buffer; give a name\n");
+        }
+    }
+}
+
+/// Shows that there is no file at a path, where there is a path.
+pub fn show_if_missing<R: Files + Eprint + AllocGlobal>(rt: &R, path: &Option<Bytes>) {
+    let Some(path) = path else {
+        return;
+    };
+    let Ok(name) = str::from_utf8(path.as_slice()) else {
+        return;
+    };
+    if let Err(error) = fs::metadata(rt, name) {
+        if error.kind() == ErrorKind::NotFound {
+            show_missing(rt.alloc(), rt, path.as_slice());
+        }
+    }
+}
+
 /// The name of the file that a job with a script starts with.
 fn file_of(job: &Job) -> Option<&[u8]> {
     let path = match job {
         Job::Edit { options, .. } | Job::Run { options, .. } => &options.path,
-        Job::Vouch { wanted, .. } => wanted.path(),
-        Job::Judge { .. }
-        | Job::Explain { .. }
-        | Job::ExplainBy { .. }
-        | Job::Check { .. }
-        | Job::Fits { .. } => return None,
+        Job::Vouch { wanted, .. } | Job::Judge { wanted, .. } => wanted.path(),
+        Job::Explain { .. } | Job::ExplainBy { .. } | Job::Check { .. } | Job::Fits { .. } => {
+            return None;
+        }
     };
     match path {
         Some(path) => Some(path.as_slice()),
@@ -50,12 +109,11 @@ fn file_of(job: &Job) -> Option<&[u8]> {
 /// How the file of this name is given as the script of a job.
 fn script_text(alloc: Global, job: &Job, file: &[u8]) -> Result<String, AllocError> {
     let words = match job {
-        Job::Vouch { .. } => "judge a script: edv vouch FILE",
-        Job::Run { .. } => "run a script: edv run CERT FILE",
-        _ => "run a script: edv edit FILE",
+        Job::Run { .. } => "edv run CERT FILE",
+        _ => "edv edit FILE",
     };
     let file = quoted_word(alloc, file)?;
     let file = file.as_str();
-    let hint = format!(in alloc; "hint: to {words} <{file}")?;
+    let hint = format!(in alloc; "hint: to run a script: {words} <{file}")?;
     shown_lines(alloc, hint.as_str())
 }

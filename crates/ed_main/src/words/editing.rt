@@ -14,12 +14,12 @@ use crate::stderr::usage::{
     AT_ALONE, AT_UNVOUCHED, EDIT_USAGE, LIKE_BESIDE_AT, LIKE_UNVOUCHED, NO_FILE, NO_SCRIPT,
 };
 use crate::wanted::Wanted;
+use crate::words::WordsFault;
+use crate::words::keeping::writing_in;
 use crate::words::starts::wrong_proposal;
 use crate::words::texts::{bytes_of, is_given, is_path, is_prompt, may_judge, text_of};
-use crate::words::{WordsFault, writing_in};
 use clap::ArgMatches;
 use ed_base::Bytes;
-use ed_rules::Texts;
 use ed_syntax::Options;
 use std::alloc::Global;
 
@@ -44,6 +44,7 @@ pub fn edit_job(alloc: Global, given: &ArgMatches<'_>) -> Result<Job, WordsFault
         return Err(WordsFault::of(alloc, NO_SCRIPT, EDIT_USAGE));
     }
     let judged = judged_in(alloc, given, path)?;
+    let writing = writing_in(alloc, given, EDIT_USAGE)?;
     let options = Options {
         silent: is_given(text_of(given, "silent")),
         prompt: bytes_of(alloc, prompt)?,
@@ -52,7 +53,7 @@ pub fn edit_job(alloc: Global, given: &ArgMatches<'_>) -> Result<Job, WordsFault
     Ok(Job::Edit {
         options,
         script: bytes_of(alloc, script)?,
-        writing: writing_in(given),
+        writing,
         judged,
     })
 }
@@ -139,7 +140,7 @@ fn judged_if(
         })),
         None => {
             let at = Chains::read(alloc, at, None, EDIT_USAGE)?;
-            Ok(Some(Wanted::Stated(any_start(path, Some(Texts::none(alloc))), at)))
+            Ok(Some(Wanted::Stated(any_start(path, None), at)))
         }
     }
 }

@@ -7,15 +7,12 @@ ghost use Rattle.ed_main.specs.Job.{IsGiven};
 
 use crate::job::Job;
 use crate::stderr::usage::{BESIDE_CERTIFICATE, EXPLAIN_USAGE, NO_CERTIFICATE, NO_SCRIPT};
-use crate::words::WordsFault;
 use crate::words::starts::{states_start, wanted_in};
 use crate::words::texts::{bytes_of, has_text, is_given, is_path, text_of};
+use crate::words::{ANY_FILE, WordsFault};
 use clap::ArgMatches;
 use ed_base::Bytes;
 use std::alloc::Global;
-
-/// What a script that is explained without a certificate is for: any file, under this name.
-const ANY_FILE: &str = "FILE";
 
 /// The job of `explain`.
 pub fn explain_job(alloc: Global, given: &ArgMatches<'_>) -> Result<Job, WordsFault>

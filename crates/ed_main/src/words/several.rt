@@ -1,11 +1,12 @@
 //! The scripts that `vouch` is given, and what it is to do with them.
-ghost use Rattle.std.specs.Prelude.{◌≡◌, map, IfOk};
+ghost use Rattle.std.specs.Prelude.{◌≡◌, map, option_map, IfOk};
 ghost use Rattle.ed_main.specs.Words as meaning;
 ghost use Rattle.ed_main.specs.declared.job.Job.TheVariants as job;
 
 use crate::job::Job;
 use crate::paths::Paths;
 use crate::wanted::Wanted;
+use crate::words::ANY_FILE;
 use crate::words::texts::is_path;
 use ed_base::Bytes;
 use ed_calls::Detail;
@@ -21,6 +22,16 @@ pub fn are_paths(names: &[&str]) -> bool
         }
     }
     true
+}
+
+/// The file that scripts are for: several are for any, where none is named.
+pub fn file_for<'a>(path: Option<&'a str>, scripts: &[&str]) -> Option<&'a str>
+    ensures value { option_map (λ text. text.now) result ≡ meaning.file_for (option_map (λ text. text.now) path.entry) (map (λ text. text.now) scripts.now) }
+{
+    match (path, scripts) {
+        (None, [_, _, ..]) => Some(ANY_FILE),
+        _ => path,
+    }
 }
 
 /// The job of `vouch` with these scripts: a certificate, where there is one at most and something is to be told; else they are judged.

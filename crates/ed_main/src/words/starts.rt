@@ -5,15 +5,19 @@ ghost use Rattle.ed_rules.specs.LineBounds.{is_few, most_lines};
 ghost use Rattle.ed_main.specs.Chains.{AreHad};
 ghost use Rattle.ed_main.specs.Words as meaning;
 ghost use Rattle.ed_main.specs.Wanted.{IsWanted};
-ghost use Rattle.ed_main.specs.Words.{AreHadIn, IsAsked};
+ghost use Rattle.ed_main.specs.Words.{AreHadIn, IsAsked, may_state};
 
 use crate::any_start::any_start;
 use crate::chains::Chains;
 use crate::patterns::stated_of;
-use crate::stderr::usage::{AT_ALONE, LIKE_ALONE, LIKE_BESIDE, NO_FILE, NO_MAX, NO_MIN};
+use crate::stderr::usage::{
+    AT_ALONE, HAS_ALONE, HAS_NOWHERE, LIKE_ALONE, LIKE_BESIDE, NO_FILE, NO_MAX, NO_MIN,
+};
 use crate::wanted::Wanted;
 use crate::words::WordsFault;
-use crate::words::texts::{bytes_of, has_text, is_given, may_have, may_propose, text_of};
+use crate::words::texts::{
+    bytes_of, has_text, is_given, may_have, may_match, may_propose, text_of,
+};
 use analyser::Start;
 use clap::ArgMatches;
 use ed_base::Bytes;
@@ -109,7 +113,7 @@ fn stated_in(
         return Err(WordsFault::of(alloc, "error: --min is above --max", usage));
     }
     let asked = is_given(text_of(given, "patterns"));
-    let has = patterns_in(alloc, given, asked, usage)?;
+    let has = patterns_in(alloc, path, given, most, asked, usage)?;
     let at = chains_in(alloc, path, given, most.unwrap_or(None), usage)?;
     let file = bytes_of(alloc, path)?;
     Ok(Wanted::Stated(starts_of(file, least, most, has), at))
@@ -202,23 +206,51 @@ fn chains_for(
     Chains::read(alloc, texts, most, usage)
 }
 
-/// The patterns that a start states, where they are asked for or given.
+/// The patterns that a start states, where they are asked for or given, for the file at this path, which has so many lines at most.
 fn patterns_in(
     alloc: Global,
+    path: Option<&str>,
     given: &ArgMatches<'_>,
+    most: Option<Option<u64>>,
     asked: bool,
     usage: &str,
 ) -> Result<Option<Texts>, WordsFault>
-    ensures patterns { IfOk result (λ _. meaning.are_patterns (meaning.texts_in (codes "has") (rows_of (found_of given.now))) ≡ true) }
+    ensures patterns { IfOk result (λ _. may_state (option_map (λ text. text.now) path.entry) most (meaning.texts_in (codes "has") (rows_of (found_of given.now))) ≡ true) }
     ensures value { IfOk result (λ has. has ≡ meaning.stated asked (meaning.texts_in (codes "has") (rows_of (found_of given.now)))) }
     ensures only_if_refused { IfErr result (λ fault. fault ≢ WordsFault.Memory →
-        meaning.are_patterns (meaning.texts_in (codes "has") (rows_of (found_of given.now))) ≡ false) }
+        may_state (option_map (λ text. text.now) path.entry) most (meaning.texts_in (codes "has") (rows_of (found_of given.now))) ≡ false) }
     ensures unasked { IfErr result (λ fault. ¬ IsAsked fault) }
 {
     match given.get_strs("has") {
-        Some(texts) => stated_of(alloc, asked, texts, usage),
-        None => stated_of(alloc, asked, &[], usage),
+        Some(texts) => patterns_for(alloc, path, texts, most, asked, usage),
+        None => patterns_for(alloc, path, &[], most, asked, usage),
     }
+}
+
+/// The same of these texts.
+fn patterns_for(
+    alloc: Global,
+    path: Option<&str>,
+    texts: &[&str],
+    most: Option<Option<u64>>,
+    asked: bool,
+    usage: &str,
+) -> Result<Option<Texts>, WordsFault>
+    ensures patterns { IfOk result (λ _. may_state (option_map (λ text. text.now) path.entry) most (map (λ text. text.now) texts.now) ≡ true) }
+    ensures value { IfOk result (λ has. has ≡ meaning.stated asked (map (λ text. text.now) texts.now)) }
+    ensures only_if_refused { IfErr result (λ fault. fault ≢ WordsFault.Memory →
+        may_state (option_map (λ text. text.now) path.entry) most (map (λ text. text.now) texts.now) ≡ false) }
+    ensures unasked { IfErr result (λ fault. ¬ IsAsked fault) }
+{
+    if !may_match(path, most, texts) {
+        let wrong = if path.is_none() {
+            HAS_ALONE
+        } else {
+            HAS_NOWHERE
+        };
+        return Err(WordsFault::of(alloc, wrong, usage));
+    }
+    stated_of(alloc, asked, texts, usage)
 }
 
 /// The fewest lines, where they are given; none for a text that is no number of lines.

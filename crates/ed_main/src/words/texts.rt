@@ -63,6 +63,26 @@ pub fn may_have(path: Option<&str>, chains: &[&str]) -> bool
     }
 }
 
+/// Whether patterns may be given that some line of the file at this path matches, if some are: where there is one, and it may have a line.
+pub fn may_match(path: Option<&str>, most: Option<Option<u64>>, patterns: &[&str]) -> bool
+    ensures value { result ≡ meaning.may_match (option_map (λ text. text.now) path.entry) most (map (λ text. text.now) patterns.now) }
+{
+    match patterns {
+        [] => true,
+        _ => path.is_some() && has_room(most),
+    }
+}
+
+/// Whether this limit leaves room for a line.
+fn has_room(most: Option<Option<u64>>) -> bool
+    ensures value { result ≡ meaning.has_room most }
+{
+    match most {
+        Some(Some(most)) => most > 0,
+        _ => true,
+    }
+}
+
 /// Whether these may be given of a start over which `edit` judges a script, if it is asked to: a file that it is proposed from, or landmarks.
 pub fn may_judge(vouched: bool, path: Option<&str>, like: Option<&str>, chains: &[&str]) -> bool
     ensures value { result ≡ meaning.may_judge vouched (option_map (λ text. text.now) path.entry) (option_map (λ text. text.now) like.entry) (map (λ text. text.now) chains.now) }

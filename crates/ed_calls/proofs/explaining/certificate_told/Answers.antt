@@ -17,7 +17,7 @@ returns-in-Accepted c =
       value = IfOk-weaker c.notes_told.result _ _ (λ told is.
           meaning.accepted (script_of c.args.script.now) read (c.scripts_are_read_as_spelled.ensures.spelled c.args.script.now)
           c.in-Ok.ensures.exact (sym verdict ∙ c.in-Accepted.is)
-          (subst (λ (ns : List Note). meaning.IsExplained c.args.script.now (map note_value ns) told) c.as_slice.ensures.value is)) c.notes_told.ensures.value;
+          (subst (λ (ns : List Note). meaning.IsExplained (map note_value ns) told) c.as_slice.ensures.value is)) c.notes_told.ensures.value;
     }
 
 pub returns-in-Ok : goal.returns-in-Ok

@@ -1,15 +1,12 @@
 -- What `vouch` would tell is a certificate, the need that fails, or a name that no file has.
-use Rattle.std.proofs.Common.{◌≡◌, Some}
-use Rattle.ed_syntax.specs.reading.Reading.{script_of}
-use Rattle.ed_calls.specs.Finding.{IsJudged}
-use Rattle.ed_calls.specs.Names.{first_unusable}
+use Rattle.ed_calls.specs.Finding.{IsJudged, IsUnusable}
 use Rattle.ed_calls.proofs.Judgements.{judged_refused, judged_unusable, judged_vouched}
 use Rattle.ed_calls.proofs.judgement.judge_text.Goals as goal
 
 pub returns-in-Ok-Unusable-clause-judged : goal.returns-in-Ok-Unusable-clause-judged
 returns-in-Ok-Unusable-clause-judged c =
-    let named : first_unusable (script_of c.args.script.now) ≡ Some c.in-Ok-Unusable.number = rw c.in-Ok-Unusable.field-0-is at c.in-Ok-Unusable.ensures.found in
-    judged_unusable c.args.script.now c.args.starts c.in-Ok-Unusable.number named
+    let found : IsUnusable c.args.script.now c.args.starts c.in-Ok-Unusable.place = rw c.in-Ok-Unusable.field-0-is at c.in-Ok-Unusable.ensures.found in
+    judged_unusable c.args.script.now c.args.starts c.in-Ok-Unusable.place found
 
 pub returns-in-Vouched-clause-judged : goal.returns-in-Vouched-clause-judged
 returns-in-Vouched-clause-judged c =

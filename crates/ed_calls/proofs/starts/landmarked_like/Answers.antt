@@ -4,7 +4,7 @@ use Rattle.ed_base.specs.Lines.{lines_of}
 use Rattle.ed_syntax.specs.reading.Reading.{script_of}
 use Rattle.hints.specs.declared.given.Given.{Given}
 use Rattle.hints.specs.Landmarks.{IsLandmarked}
-use Rattle.ed_calls.specs.Starts.{AllowsFile}
+use Rattle.hints.specs.Allowing.{AllowsFile}
 use Rattle.ed_calls.proofs.starts.landmarked_like.Goals as goal
 
 pub returns : goal.returns

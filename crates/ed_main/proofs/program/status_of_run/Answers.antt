@@ -3,9 +3,6 @@ use Rattle.ed_main.specs.Program as meaning
 use Rattle.ed_main.specs.Program.{wants_script}
 use Rattle.ed_main.proofs.program.status_of_run.Goals as goal
 
-pub returns-in-Ok-script_from-clause-ending : goal.returns-in-Ok-script_from-clause-ending
-returns-in-Ok-script_from-clause-ending g c = meaning.did c.as_slice-in-Ok-script_from.result.now c.in-Ok.job c.in-Ok.ensures.given c.do_job.ensures.did
-
 pub returns-in-Err-script_from-clause-ending : goal.returns-in-Err-script_from-clause-ending
 returns-in-Err-script_from-clause-ending g c =
     let wanted = wanted_where_unread (wants_script c.in-Ok.job) _ c.in-Err-script_from.fault c.script_from.ensures.unasked c.in-Err-script_from.is in

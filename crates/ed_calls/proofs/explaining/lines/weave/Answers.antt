@@ -4,8 +4,9 @@ use Rattle.ed_calls.proofs.explaining.lines.weave.Goals as goal
 
 pub loop-command-preserved : goal.loop-command-preserved
 loop-command-preserved c =
-    woven-on c.args.spans.now c.args.commands.now _ c.loop-command.command-index c.command-item.result c.loop-command.text c.push_line.new.text
-    c.as_bytes.result.now (omega arith) c.command-item.is c.in_ok-push_line.ensures.added c.loop-command.invariant
+    woven-on c.args.commands.now c.args.commands.now c.loop-command.command-index c.command-item.result c.line_at-line.result c.loop-command.text
+    c.push_line.new.text c.as_bytes.result.now (omega arith) c.command-item.is c.in_ok-push_line.ensures.added c.loop-command.invariant
 
 pub returns : goal.returns
-returns c = record { woven = woven-end c.args.spans.now c.args.commands.now _ c.loop-command.command-index c.loop-command.text (omega arith) c.loop-command.invariant }
+returns c =
+    record { woven = woven-end c.args.commands.now c.args.commands.now c.loop-command.command-index c.loop-command.text (omega arith) c.loop-command.invariant }

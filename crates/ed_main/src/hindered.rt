@@ -1,0 +1,165 @@
+//! Which files couldn't be written, as far as that is seen without writing them, and which would be left as they are. What the system says, no
+//! clause knows.
+ghost use Rattle.std.specs.Prelude.{◌≢◌, [], IsTrue};
+ghost use Rattle.ed_session.specs.MemFiles.{log_of};
+ghost use Rattle.rehearsal.specs.Held.{writes_of};
+
+use ed_base::Bytes;
+use ed_calls::{show_held, show_unwritten};
+use ed_session::{DiskFiles, Outside};
+use ed_syntax::Answer;
+use rehearsal::{HeldWrite, Rehearsal};
+use std::alloc::AllocError;
+use std::fs::{File, OpenOptions, TryLockError};
+use std::io::ErrorKind;
+use std::path::Path;
+use std::rt::Files;
+use std::{fs, io};
+use whole::look;
+
+/// Shows the writes of a rehearsal, as they would have been made, or why they couldn't be, and says whether one couldn't be: in place, or where
+/// files are to be replaced whole. What would be left as it is, since it has the bytes already, is told where files are spared.
+pub fn show_writes<R, O>(rt: &R, rehearsal: &mut Rehearsal<O>, whole: bool, spares: bool) -> bool
+where
+    R: Files<File = File> + Eprint + AllocGlobal,
+    O: Outside + Drop,
+    ensures some { IsTrue result → writes_of (log_of rehearsal.old.files) ≢ [] }
+{
+    let is_one = !rehearsal.writes().is_empty();
+    let mut stay = Vec::new(rt.alloc());
+    if whole || spares {
+        // Of those for which there is no memory it isn't told.
+        let _ = look_which_stay(rt, rehearsal, &mut stay);
+    }
+    let is_hindered = show_each(rt, rehearsal.writes(), stay.as_slice(), whole);
+    is_one && is_hindered
+}
+
+/// Shows each of these writes, and says whether one couldn't be made. Of those from the first on it was seen whether the file would stay as it is.
+fn show_each<R>(rt: &R, writes: &[HeldWrite], stay: &[bool], whole: bool) -> bool
+where
+    R: Files<File = File> + Eprint + AllocGlobal,
+{
+    let mut found = false;
+    for (place, write) in writes.iter().enumerate() {
+        let path = write.path.as_slice();
+        let hindrance = if whole {
+            look(rt.alloc(), rt, path).err()
+        } else {
+            hindrance(rt, path)
+        };
+        match hindrance {
+            Some(reason) => {
+                show_unwritten(rt.alloc(), rt, path, Some(reason));
+                found = true;
+            }
+            None => {
+                let stays = stay.get(place).copied().unwrap_or(false);
+                show_held(rt.alloc(), rt, write, stays);
+            }
+        }
+    }
+    found
+}
+
+/// Notes of each write in a rehearsal whether it is the last one of its path and leaves the file there as it is.
+fn look_which_stay<R, O>(
+    rt: &R,
+    rehearsal: &mut Rehearsal<O>,
+    stay: &mut Vec<bool>,
+) -> Result<(), AllocError>
+where
+    R: Files<File = File> + AllocGlobal,
+    O: Outside + Drop,
+{
+    for place in 0..rehearsal.writes().len() {
+        let stays = leaves_as_is(rt, rehearsal, place)?;
+        stay.push(stays)?;
+    }
+    Ok(())
+}
+
+/// Whether the write at this place in a rehearsal is the last one of its path and leaves the file there as it is.
+fn leaves_as_is<R, O>(
+    rt: &R,
+    rehearsal: &mut Rehearsal<O>,
+    place: usize,
+) -> Result<bool, AllocError>
+where
+    R: Files<File = File> + AllocGlobal,
+    O: Outside + Drop,
+{
+    let mut writes = rehearsal.writes().iter().skip(place);
+    let Some(write) = writes.next() else {
+        return Ok(false);
+    };
+    if writes.any(|later| later.path == write.path) {
+        return Ok(false);
+    }
+    let path = write.path.try_copy()?;
+    let told = rehearsal.read(path.as_slice())?;
+    has_bytes(rt, &path, told)
+}
+
+/// Whether the plain file at a path has the bytes that it's told to have.
+fn has_bytes<R>(rt: &R, path: &Bytes, told: Answer) -> Result<bool, AllocError>
+where
+    R: Files<File = File> + AllocGlobal,
+{
+    // What is no plain file may have no end, or wait.
+    let is_plain = match str::from_utf8(path.as_slice()) {
+        Ok(path) => matches!(fs::metadata(rt, path), Ok(found) if found.is_file()),
+        Err(_) => false,
+    };
+    if !is_plain {
+        return Ok(false);
+    }
+    match (told, DiskFiles::new(rt.alloc(), rt).read(path.as_slice())?) {
+        (Answer::Bytes(told), Answer::Bytes(found)) => Ok(told == found),
+        _ => Ok(false),
+    }
+}
+
+/// Why the file at a path couldn't be written in place: it is there and may not be opened for that, or is locked, or its folder isn't there. None
+/// where nothing is seen of the kind: that a folder takes no new file, or that a disk is full, shows only when they are written.
+fn hindrance<R: Files<File = File>>(rt: &R, path: &[u8]) -> Option<io::Error> {
+    let Ok(path) = str::from_utf8(path) else {
+        return Some(io::Error::new(ErrorKind::InvalidInput, "a name that isn't UTF-8"));
+    };
+    match fs::metadata(rt, path) {
+        // An opening that neither makes nor cuts a file leaves it as it is.
+        Ok(found) if found.is_file() || found.is_dir() => {
+            match OpenOptions::new().write(true).open(rt, path) {
+                Ok(file) => lock_of(&file),
+                Err(error) => Some(error),
+            }
+        }
+        // A pipe would wait for its reader.
+        Ok(_) => None,
+        Err(error) if error.kind() == ErrorKind::NotFound => no_folder(rt, path),
+        Err(error) => Some(error),
+    }
+}
+
+/// Why a file couldn't be written that another process has locked.
+fn lock_of(file: &File) -> Option<io::Error> {
+    match file.try_lock() {
+        Err(TryLockError::WouldBlock) => {
+            Some(io::Error::new(ErrorKind::InvalidInput, "locked by another process"))
+        }
+        _ => None,
+    }
+}
+
+/// Why there is no folder for a new file at a path.
+fn no_folder<R: Files<File = File>>(rt: &R, path: &str) -> Option<io::Error> {
+    let folder = Path::new(path).parent()?;
+    if folder.as_str().is_empty() {
+        return None;
+    }
+    match fs::metadata(rt, folder) {
+        Ok(found) if found.is_dir() => None,
+        Ok(_) => Some(io::Error::new(ErrorKind::NotADirectory, "not a folder")),
+        Err(error) => Some(error),
+    }
+}
