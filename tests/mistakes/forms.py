@@ -11,14 +11,18 @@ The old text stands just once in its file, and further pairs apply to what the e
 what is changed in another file; in must-fail/ also before the first pair. After `new:` there may be nothing.
 
 In tests/wrong-rules/NAME.edits a text can be of several lines, since a rule stands in its definition and in its body, which are laid out:
-they follow the line `old:` or `new:`, each after `| `. Elsewhere a text is one line, as `rt must-fail` wants it.
+they follow the line `old:` or `new:`, each after `| `. Elsewhere a text is one line, as `rt must-fail` wants it. Three lines more say of a
+rule which function is its body, what is wrong with it, and a script on which the program with that rule raises a false alarm or tells other
+bounds than the run's, after the start that it needs.
 """
 import dataclasses
+import os
 import re
 import typing
 
-LINE = re.compile(r'(\w+):(?: (.*))?')
+LINE = re.compile(r'(\w+):(?:[ \r](.*))?')
 NAME = re.compile(r'\w+', re.ASCII)
+NOTES = ('body', 'wrong', 'alarm')
 
 
 class CannotBeMade(Exception):
@@ -58,53 +62,34 @@ class Edit:
             texts[file] = text.replace(old, new)
         return texts
 
-    def files(self):
-        """The files that it changes, in order."""
-        return list(dict.fromkeys(change.file for change in self.changes))
-
     def alone(self):
         """The edit as must-fail/ has it."""
-        lines, now = [], None
+        text, now = '', None
         for file, old, new in self.changes:
-            if file != now:
-                lines.append(f'file: {file}')
-                now = file
-            lines += [f'old: {old}', f'new: {new}']
-        return '\n'.join(lines) + '\n'
+            text += ('' if file == now else f'file: {file}\n') + f'old: {old}\nnew: {new}\n'
+            now = file
+        return text
 
 
-def entries(lines, of_several):
-    """The lines of an edit, each with its key and its text, which is None where the key stands alone. With of_several the lines of a text
-    may follow its key."""
-    found = []
-    for line in lines:
-        if of_several and found and line.startswith('|') and not isinstance(found[-1][2], str):
-            found[-1][2] = [*(found[-1][2] or ()), line[2:]]
-            continue
-        entry = LINE.fullmatch(line)
-        found.append([line, *(entry.groups() if entry else (None, None))])
-    return [(line, key, '\n'.join(text) if isinstance(text, list) else text) for line, key, text in found]
-
-
-def read_edit(edit, file, lines, notes=()):
-    """Reads the lines of an edit, which begin in this file, if in any. notes are the keys of what else may be said of it."""
-    if not NAME.fullmatch(edit.name):
-        edit.stray = f'## {edit.name}'
+def read_edit(edit, file, text, notes=()):
+    """Reads an edit, which begins in this file, if in any. notes are the keys of what else is said of it; with them a text may have several
+    lines, which are made one until they are read."""
     old = None
-    for line, key, text in entries(lines, bool(notes)):
-        if key == 'file' and text and old is None:
-            file = text
-        elif key == 'old' and text and old is None and file:
-            old = text
+    for line in (re.sub(r'\n\| ?', '\r', text) if notes else text).split('\n'):
+        key, said = entry.groups() if (entry := LINE.fullmatch(line)) else (None, None)
+        if key == 'file' and said and old is None:
+            file = said
+        elif key == 'old' and said and old is None and file:
+            old = said
         elif key == 'new' and old is not None:
-            edit.changes.append(Change(file, old, text or ''))
+            edit.changes.append(Change(file, *(part.replace('\r', '\n') for part in (old, said or ''))))
             old = None
-        elif key in notes and text and not edit.changes:
-            edit.notes[key] = text
+        elif key in notes and said and not edit.changes:
+            edit.notes[key] = said
         elif line and edit.stray is None:
             edit.stray = line
-    if old is not None and edit.stray is None:
-        edit.stray = f'old: {old}'
+    if edit.stray is None and (old is not None or not NAME.fullmatch(edit.name) or set(edit.notes) != set(notes)):
+        edit.stray = f'## {edit.name}' if old is None else f'old: {old}'
     return edit
 
 
@@ -112,27 +97,27 @@ def read_headed(crate, path, text, file, notes=()):
     """The edits of a text that has each under a heading."""
     head, *parts = re.split(r'^## ', text, flags=re.MULTILINE)
     edits = [Edit(crate, '', path, stray=f'text before the first heading: {head}')] if head else []
-    for part in parts:
-        name, *lines = part.split('\n')
+    for name, _, lines in (part.partition('\n') for part in parts):
         edits.append(read_edit(Edit(crate, name, f'{path}: {name}'), file, lines, notes))
     return edits
 
 
-def source_of(stem):
-    """The file that the edits of wrong-bodies/STEM.edits change, unless they name another."""
-    return f'{stem}.antt' if stem.startswith('specs/') else f'src/{stem}.rt'
-
-
 def edits_of(tree, crate, folders=('must-fail', 'wrong-bodies')):
     """The wrong bodies of a crate that stand in these folders."""
-    place, edits = f'crates/{crate}', []
-    for path in (path for folder in folders for path in tree.files(f'{place}/{folder}')):
-        alone = re.fullmatch(rf'{place}/must-fail/(\w+)\.edit', path)
-        headed = re.fullmatch(rf'{place}/wrong-bodies/(.+)\.edits', path)
-        if alone:
-            edits.append(read_edit(Edit(crate, alone[1], path), None, tree.text(path).split('\n')))
-        elif headed:
-            edits += read_headed(crate, path, tree.text(path), source_of(headed[1]))
+    edits = []
+    for path in (path for folder in folders for path in tree.files(f'crates/{crate}/{folder}')):
+        folder, stem, form = re.fullmatch(r'crates/\w+/([\w-]+)/(.+?)(\.\w+)?', path).groups()
+        if (folder, form) == ('must-fail', '.edit'):
+            edits.append(read_edit(Edit(crate, stem, path), None, tree.text(path)))
+        elif (folder, form) == ('wrong-bodies', '.edits'):
+            file = f'{stem}.antt' if stem.startswith('specs/') else f'src/{stem}.rt'
+            edits += read_headed(crate, path, tree.text(path), file)
         else:
             edits.append(Edit(crate, '', path, stray='the file of a wrong body has another name'))
     return edits
+
+
+def rules_of(tree):
+    """All wrong rules; tests/wrong-rules/NAME.edits has those of the crate NAME."""
+    files = (path for path in tree.files('tests/wrong-rules') if path.endswith('.edits'))
+    return [rule for path in files for rule in read_headed(os.path.basename(path)[:-len('.edits')], path, tree.text(path), None, NOTES)]

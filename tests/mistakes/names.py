@@ -6,7 +6,6 @@ that names what the edit takes away: the prover tells those. Nor does it look at
 """
 import functools
 import re
-import typing
 
 from mistakes.functions import around, code_of, functions_in
 
@@ -22,95 +21,62 @@ CALLED = frozenset('''
     MAX MIN insert is_ascii_alphabetic is_none len map map_or min or pop saturating_add saturating_sub truncate unwrap_or
 '''.split())
 
+# A name, with what stands before it (a `.`, a `::` or nothing) and after it.
 NAMES = re.compile(r'(?:((?<!\.)\.|::)\s*)?\b([A-Za-z_]\w*)\b(?=\s*(::|\(|!(?!=)|:)?)', re.ASCII)
-WORDS = re.compile(r'\b[A-Za-z_]\w*', re.ASCII)
-IMPORTS = re.compile(r'^[ ]*(?:pub )?use ([^;]*);', re.MULTILINE)
+IMPORTS = re.compile(r'^ *(?:pub )?use ([^;]*);', re.MULTILINE)
 IMPORTED = re.compile(r'(\w+)\s*(?=[,}]|$|::\{self)', re.ASCII)
-LOCALS = re.compile(r'\b[a-z_]\w*', re.ASCII)
 # The patterns that bind names: of `let`, of `for`, of a closure, and of an arm.
-PATTERNS = [
-    re.compile(r'\blet\b([^=]*)='),
-    re.compile(r'\bfor\b(.*?)\bin\b'),
-    re.compile(r'\|([^|]*)\|'),
-    re.compile(r'((?:[^{}(),;]|\([^()]*(?:\([^()]*\)[^()]*)*\)|\{[^{}]*\}(?=\s*=>))*)=>'),
-]
-
-
-class Name(typing.NamedTuple):
-    """A name, with what stands before it (a `.`, a `::` or nothing) and after it."""
-    before: str
-    name: str
-    after: str
-
-
-def names_in(code):
-    return [Name(found[1] or '', found[2], found[3] or '') for found in NAMES.finditer(code)]
+PATTERNS = re.compile(r'''\blet\b([^=]*)=|\bfor\b(.*?)\bin\b|\|([^|]*)\|
+    |((?:[^{}(),;]|\([^()]*(?:\([^()]*\)[^()]*)*\)|\{[^{}]*\}(?=\s*=>))*)=>''', re.VERBOSE)
 
 
 def plain_names_in(code):
     """The names that stand elsewhere than at the end of a path."""
-    return {found.name for found in names_in(code) if not found.before}
+    return {name for before, name, _ in NAMES.findall(code) if not before}
 
 
 def bound_in(code):
     """The names that a text binds itself."""
-    return {name for form in PATTERNS for found in form.finditer(code) for name in LOCALS.findall(found[1] or '')}
+    return set(re.findall(r'\b[a-z_]\w*', ' '.join(map(' '.join, PATTERNS.findall(code)))))
 
 
-class Known:
-    """What the files of a tree know."""
+@functools.cache
+def names_of_file(text):
+    """The names that a whole file knows: what it imports, and what stands in its code elsewhere than at the end of a path."""
+    code = code_of(text)
+    return plain_names_in(code).union(*map(IMPORTED.findall, IMPORTS.findall(code)))
 
-    def __init__(self, tree):
-        self.tree = tree
-        for method in ('code', 'names_of_file', 'functions', 'words'):
-            setattr(self, method, functools.cache(getattr(self, method)))
 
-    def code(self, file):
-        return code_of(self.tree.text(file))
+@functools.cache
+def words_of(tree, crate):
+    """All words of a crate's code."""
+    sources = (path for path in tree.files(f'crates/{crate}/src') if path.endswith('.rt'))
+    return {word for path in sources for word in re.findall(r'\b[A-Za-z_]\w*', code_of(tree.text(path)))}
 
-    def names_of_file(self, file):
-        """The names that a whole file knows: what it imports, and what stands in its code elsewhere than at the end of a path."""
-        code = self.code(file)
-        imported = {name for imports in IMPORTS.findall(code) for name in IMPORTED.findall(imports)}
-        return plain_names_in(code) | imported
 
-    def functions(self, file):
-        """The functions of a file, each with the names of its code that end no path."""
-        return {function: plain_names_in(self.code(file)[function.start:function.end]) for function in functions_in(self.tree.text(file))}
+def is_known(tree, crate, text, function, found):
+    """Whether a name of a new text is known where it comes in: after a `.` or `::`, and before the `:` of a field, as a word of the
+    crate or of one below it; a local in the function there, if there is one; all else in the file."""
+    before, name, after = found
+    libraries = tree.libraries(crate)
+    if before or after == ':':
+        return name in CALLED or any(name in words_of(tree, part) for part in (crate, *libraries))
+    if name in PLAIN:
+        return True
+    if re.match('[a-z_]', name) and not after:
+        return name in (plain_names_in(code_of(text[function.start:function.end])) if function else names_of_file(text))
+    return name in names_of_file(text) or name in libraries
 
-    def words(self, crate):
-        """All words of a crate's code."""
-        files = (file for file in self.tree.files(f'crates/{crate}/src') if file.endswith('.rt'))
-        return {word for file in files for word in WORDS.findall(self.code(file))}
 
-    def at(self, file, place):
-        """What a text can name at a place of a file: the names of the innermost function there, or of the whole file if there is none."""
-        functions = self.functions(file)
-        innermost = around(functions, place)
-        return functions[innermost] if innermost else self.names_of_file(file)
-
-    def knows(self, found, crate, file, place):
-        """Whether a name of a new text is known where it comes in: after a `.` or `::`, and before the `:` of a field, as a word of the
-        crate or of one below it; a local in the function there; all else in the file."""
-        name = found.name
-        if found.before or found.after == ':':
-            return name in CALLED or any(name in self.words(part) for part in (crate, *self.tree.libraries(crate)))
-        if name in PLAIN:
-            return True
-        path = f'crates/{crate}/{file}'
-        if re.match('[a-z_]', name) and not found.after:
-            return name in self.at(path, place)
-        return name in self.names_of_file(path) or name in self.tree.libraries(crate)
-
-    def unknown_in(self, edit):
-        """The names in the new texts of an edit that nothing there stands for."""
-        bound = {name for change in edit.changes for name in bound_in(code_of(change.new))}
-        unknown = []
-        for file, old, new in edit.changes:
-            if file.endswith('.rt'):
-                there = bound | {found.name for found in names_in(code_of(old))}
-                place = self.tree.text(f'crates/{edit.crate}/{file}').find(old)
-                for found in names_in(code_of(new)):
-                    if found.name not in there and not self.knows(found, edit.crate, file, place):
-                        unknown.append(found.before + found.name)
-        return unknown
+def unknown_in(tree, edit):
+    """The names in the new texts of an edit that nothing there stands for."""
+    bound = set().union(*(bound_in(code_of(new)) for _, _, new in edit.changes))
+    unknown = []
+    for file, old, new in edit.changes:
+        if file.endswith('.rt'):
+            text = tree.text(f'crates/{edit.crate}/{file}')
+            there = bound | {name for _, name, _ in NAMES.findall(code_of(old))}
+            function = around(functions_in(text), text.find(old))
+            names = [found for found in NAMES.findall(code_of(new)) if found[1] not in there]
+            unknown += [found[0] + found[1] for found in names if not is_known(tree, edit.crate, text, function, found)]
+    return unknown

@@ -1,4 +1,5 @@
 """Commands that are ended with the run that began them, when it is told to end."""
+import contextlib
 import os
 import signal
 import subprocess
@@ -15,8 +16,6 @@ class Ended(Exception):
 
 def told(command, folder):
     """What a command writes, on either output; it is run in a folder, without input."""
-    if ENDING.is_set():
-        raise Ended
     run = subprocess.Popen(command, cwd=folder, stdin=subprocess.DEVNULL, stdout=subprocess.PIPE, stderr=subprocess.STDOUT,
                            text=True, errors='replace', start_new_session=True)
     BEGUN.add(run)
@@ -31,20 +30,17 @@ def told(command, folder):
 
 def end(run):
     """Ends a command and what it began."""
-    try:
+    with contextlib.suppress(ProcessLookupError):
         os.killpg(run.pid, signal.SIGTERM)
-    except ProcessLookupError:
-        pass
 
 
 def end_with_signals():
     """From here on, what ends this run by a signal that can be caught ends what it began too."""
     def end_all(number, _):
-        if not ENDING.is_set():
-            ENDING.set()
-            for run in list(BEGUN):
-                end(run)
-            sys.exit(128 + number)
+        ENDING.set()
+        for run in list(BEGUN):
+            end(run)
+        sys.exit(128 + number)
 
     for number in (signal.SIGINT, signal.SIGTERM, signal.SIGHUP):
         signal.signal(number, end_all)

@@ -3,8 +3,8 @@ import contextlib
 import functools
 import glob
 import os
+import re
 import shutil
-import subprocess
 import tempfile
 
 from mistakes import running
@@ -43,11 +43,8 @@ class Tree:
 
     def libraries(self, crate):
         """The libraries that crates.txt names for a crate, those of the toolchain among them."""
-        for line in self.text('crates.txt').split('\n'):
-            name, colon, libraries = line.partition(':')
-            if colon and name.split()[:1] == [crate]:
-                return tuple(libraries.split())
-        return ()
+        line = re.search(rf'^{crate}\b[^:\n]*:(.*)', self.text('crates.txt'), re.MULTILINE)
+        return tuple(line[1].split()) if line else ()
 
     def with_all_below(self, crate):
         """A crate and the crates of this tree that it stands on, directly or not."""
@@ -63,30 +60,22 @@ class Tree:
 @contextlib.contextmanager
 def copied(tree, crates):
     """A copy of the tree without wrong bodies, with what earlier checks of these crates proved, so that only the edits are left to
-    check. It is removed at the end."""
-    sweep()
-    copy = tempfile.mkdtemp(prefix=f'{COPY}{os.getpid()}.')
-    try:
-        fill(copy, tree, crates)
+    check. It is removed at the end, and with it those of runs that were killed before they could do it."""
+    def left_out(folder, names):
+        if os.path.basename(folder) != 'out':
+            return {'must-fail', 'wrong-bodies'}
+        return set(names) - set(KEPT if os.path.basename(os.path.dirname(folder)) in needed else ())
+
+    needed = {part for crate in crates for part in tree.with_all_below(crate)}
+    for copy in glob.glob(os.path.join(tempfile.gettempdir(), f'{COPY}*')):
+        process = os.path.basename(copy)[len(COPY):].split('.')[0]
+        if os.stat(copy).st_uid == os.getuid() and process.isdigit() and not os.path.isdir(f'/proc/{process}'):
+            shutil.rmtree(copy, ignore_errors=True)
+    with tempfile.TemporaryDirectory(prefix=f'{COPY}{os.getpid()}.', ignore_cleanup_errors=True) as copy:
+        shutil.copytree(os.path.join(tree.top, 'crates'), os.path.join(copy, 'crates'), symlinks=True, ignore=left_out)
+        for name in ('crates.txt', 'HANDLES'):
+            shutil.copy2(os.path.join(tree.top, name), copy)
         yield copy
-    finally:
-        shutil.rmtree(copy, ignore_errors=True)
-
-
-def fill(copy, tree, crates):
-    """Copies the tree into a folder."""
-    command = ['git', 'ls-files', '-z', '--cached', '--others', '--exclude-standard', '--', 'crates', 'crates.txt', 'HANDLES']
-    listed = subprocess.run(command, cwd=tree.top, capture_output=True, check=True)
-    for name in listed.stdout.decode().split('\0'):
-        source = os.path.join(tree.top, name)
-        if name.endswith(('.edit', '.edits')) or not os.path.isfile(source):
-            continue
-        os.makedirs(os.path.join(copy, os.path.dirname(name)), exist_ok=True)
-        shutil.copy2(source, os.path.join(copy, name))
-    needed = sorted({part for crate in crates for part in tree.with_all_below(crate)})
-    for kept in (os.path.join('crates', crate, 'out', part) for crate in needed for part in KEPT):
-        if os.path.isdir(os.path.join(tree.top, kept)):
-            subprocess.run(['cp', '-a', '--parents', kept, copy], cwd=tree.top, check=True)
 
 
 def build_libraries(tree, copy, crates):
@@ -95,11 +84,3 @@ def build_libraries(tree, copy, crates):
         folder = os.path.join(copy, 'crates', library)
         if os.path.isdir(folder):
             running.told(['rt', 'lib'], folder)
-
-
-def sweep():
-    """Removes the copies of runs that were killed before they could do it."""
-    for copy in glob.glob(os.path.join(tempfile.gettempdir(), f'{COPY}*')):
-        process = os.path.basename(copy)[len(COPY):].split('.')[0]
-        if os.stat(copy).st_uid == os.getuid() and process.isdigit() and not os.path.isdir(f'/proc/{process}'):
-            shutil.rmtree(copy, ignore_errors=True)

@@ -20,15 +20,12 @@ AT_A_TIME = 4
 
 
 def changed_function(tree, edit):
-    """The function whose body holds all that an edit changes, as its type and its name; None if there is no such one."""
-    if len(edit.files()) != 1 or not edit.files()[0].endswith('.rt'):
-        return None
-    text = tree.text(f'crates/{edit.crate}/{edit.files()[0]}')
-    functions, found = functions_in(text), set()
-    for change in edit.changes:
-        at = text.find(change.old)
-        function = around(functions, at)
-        found.add((function.kind, function.name) if function and function.body <= at else None)
+    """The file and the function, by its type and name, whose body holds all that an edit changes; None if there is no such one."""
+    found = set()
+    for file, old, _ in edit.changes:
+        text = tree.text(f'crates/{edit.crate}/{file}')
+        function = around(functions_in(text), text.find(old)) if file.endswith('.rt') else None
+        found.add((file, function.kind, function.name) if function and function.body <= text.find(old) else None)
     return found.pop() if len(found) == 1 else None
 
 
@@ -38,26 +35,20 @@ def rounds(tree, edits):
     for edit in edits:
         function = changed_function(tree, edit)
         if function:
-            place = edit.files()[0], function
-            groups[seen[place]].append((edit, function))
-            seen[place] += 1
-    return [group for _, group in sorted(groups.items())]
+            groups[seen[function]].append((edit, function))
+            seen[function] += 1
+    return groups.values()
 
 
-def module_of(file):
-    parts = file[len('src/'):-len('.rt')].split('/')
-    return [part for part in parts if part not in ('lib', 'main', 'mod')]
-
-
-def is_refused(edit, function, verdicts):
+def is_refused(crate, function, verdicts):
     """Whether the lines of a check say of the function, or of a closure in it, that a proof of its own fails, and not just that of one that
     it calls."""
-    kind, name = function
+    file, kind, name = function
     # A method stands where its type does, whatever file it is in.
-    modules = [] if kind else module_of(edit.files()[0])
+    modules = [] if kind else [part for part in file[len('src/'):-len('.rt')].split('/') if part not in ('lib', 'main', 'mod')]
     path = f'(?:.*::)?{kind}[A-Za-z]*(?:<.*>)?::{name}' if kind else f'(?:.*::)?{name}'
     # What waits for the proof of a function that it calls has not failed by that.
-    told = re.compile(rf'fn {"::".join([edit.crate, *modules, path])}(?:(?:::|\+).*)?: (?:not proved|no proof: (?!it calls ).*)')
+    told = re.compile(rf'fn {"::".join([crate, *modules, path])}(?:(?:::|\+).*)?: (?:not proved|no proof: (?!it calls ).*)')
     failed = re.compile(rf'\./{"/".join(["proofs", *modules, path.replace("::", "/")])}/[^:]*\.antt:[0-9:]* error: .*')
     return any(told.fullmatch(verdict) or failed.fullmatch(verdict) for verdict in verdicts)
 
@@ -100,7 +91,7 @@ class Trial:
         write(self.folder, texts)
         verdicts = running.told(['rt', 'check'], self.folder).split('\n')
         write(self.folder, {file: self.text(file) for file in texts})
-        refused = [edit for edit, function in made if is_refused(edit, function, verdicts)]
+        refused = [edit for edit, function in made if is_refused(self.crate, function, verdicts)]
         for edit in refused:
             self.tell(edit, REFUSED)
         return [edit.name for edit in refused]

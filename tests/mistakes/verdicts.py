@@ -15,27 +15,21 @@ from mistakes.tree import PARTS
 REFUSED, LET_THROUGH = 'refused', 'let-through'
 # To be raised where what counts as refused changes: earlier verdicts then count no longer.
 WAY = 1
-LINE = re.compile(rf'([0-9a-f]{{64}}) ({REFUSED}|{LET_THROUGH})')
-
-
-def kept_in():
-    """The file of verdicts."""
-    caches = os.environ.get('XDG_CACHE_HOME') or os.path.join(os.path.expanduser('~'), '.cache')
-    return os.path.join(caches, 'mullerfawn', 'wrong-bodies')
+LINE = re.compile(rf'^([0-9a-f]{{64}}) ({REFUSED}|{LET_THROUGH})$', re.MULTILINE)
 
 
 class Verdicts:
     """The verdicts on some edits that hold for a tree as it stood when this was made."""
 
     def __init__(self, tree, edits):
-        self.tree, self.path = tree, kept_in()
+        caches = os.environ.get('XDG_CACHE_HOME') or os.path.join(os.path.expanduser('~'), '.cache')
+        self.tree, self.path = tree, os.path.join(caches, 'mullerfawn', 'wrong-bodies')
         self.crate_sum = functools.cache(self.crate_sum)
         self.start = f'{WAY} {subprocess.run(["rt", "version"], capture_output=True, text=True, check=True).stdout.strip()}'
         self.known = {}
         if os.path.isfile(self.path):
-            with open(self.path, encoding='ascii', errors='replace') as lines:
-                found = (LINE.fullmatch(line.rstrip('\n')) for line in lines)
-                self.known = {line[1]: line[2] for line in found if line}
+            with open(self.path, encoding='ascii', errors='replace') as kept:
+                self.known = dict(LINE.findall(kept.read()))
         self.keys = {(edit.crate, edit.name): self.key(edit) for edit in edits}
 
     def crate_sum(self, crate):
@@ -63,10 +57,4 @@ class Verdicts:
         os.makedirs(os.path.dirname(self.path), exist_ok=True)
         with open(self.path, 'ab', buffering=0) as kept:
             # What a run that was killed in mid-write left stays a line of its own.
-            begun = '\n' if os.path.getsize(self.path) and not self.ends_whole() else ''
-            kept.write(f'{begun}{key} {verdict}\n'.encode())
-
-    def ends_whole(self):
-        with open(self.path, 'rb') as kept:
-            kept.seek(-1, os.SEEK_END)
-            return kept.read() == b'\n'
+            kept.write(f'\n{key} {verdict}\n'.encode())
