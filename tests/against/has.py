@@ -112,6 +112,9 @@ class Case:
         self.low = chance.choice((0, 1, 1, 1, 2))
         self.high = chance.choice((None, None, self.low, self.low + 2, self.low + 5))
         self.has = [chance.choice(maker.patterns) for _ in range(chance.choice((0, 1, 1, 2, 3)))] + chance.choices(list(PATTERNS), k=chance.choice((0, 0, 1)))
+        if self.high == 0:
+            # Of a file without lines no pattern can be stated: these words are refused.
+            self.has = []
         self.words = ['--min', str(self.low), '--max', 'any' if self.high is None else str(self.high), *[f'--has={pattern}' for pattern in self.has]]
         if not self.has or chance.random() < 0.2:
             self.words.append('--patterns')
