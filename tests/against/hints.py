@@ -70,9 +70,9 @@ def main():
     followed = pairs = refused = wrong = 0
     for _ in range(count):
         script = script_of(generator)
-        minimum, maximum, has, chains = generator.choice([0, 1, 3]), 'any', [], []
+        start = ['--min', str(generator.choice([0, 1, 3])), '--max', 'any', 'F']
         for _ in range(8):
-            status, at, lines, found = steps(script, minimum, maximum, has, chains)
+            status, at, lines, found = steps(script, start)
             refused += status == 1
             if status != 1 or not found:
                 break
@@ -86,7 +86,7 @@ def main():
                     if why:
                         wrong += 1
                         print(f'{script!r} -> {new!r}: {text}: {why}')
-            _, script, minimum, maximum, has, chains = found[0]
+            _, script, start = found[0]
     print(f'{count} scripts of seed {seed}: {refused} refusals, {followed} hints followed to another script, {pairs} runs, {wrong} silent differences')
     sys.exit(wrong > 0)
 

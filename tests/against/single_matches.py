@@ -13,7 +13,7 @@ import random
 import sys
 
 sys.path.insert(0, os.path.join(os.path.dirname(os.path.abspath(__file__)), '..', 'verifier'))
-from hint_follower import left_by_script, silent, steps
+from hint_follower import left_by_script, lines_of, silent, steps
 
 # What commands before the search go to.
 BEFORE = ['1', '2', '3', '$', '$-1', '1p', '2p', '2,3p', '.-1', '/other/', '?other?', '/first/', "2ka\n'a", '1,2s/^/z/', '$d', '1d', '2d', '0a\nnew\n.',
@@ -48,7 +48,7 @@ def main():
     refused = pairs = differ = wrong = 0
     for _ in range(count):
         script, content = case_of(generator)
-        status, at, lines, found = steps(script, generator.choice([0, 1, 2]), 'any', [])
+        status, at, lines, found = steps(script, ['--min', str(generator.choice([0, 1, 2])), '--max', 'any', 'F'])
         if status != 1:
             continue
         refused += 1
@@ -57,7 +57,7 @@ def main():
             continue
         for text, new, *_ in followed(found, script):
             pairs += 1
-            differ += left_by_script(new.decode('latin-1').split('\n')[:-1], files)[1] != left_by_script(lines, files)[1]
+            differ += left_by_script(lines_of(new), files)[1] != left_by_script(lines, files)[1]
             why = silent(lines, at, text, new, files)
             if why:
                 wrong += 1

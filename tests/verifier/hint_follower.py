@@ -1,6 +1,7 @@
 """Follows a hint of `vouch` by its words alone, as a reader would, and compares what GNU ed then leaves with what it left before.
 
-`steps` gives each script that comes of a hint; `silent` says whether a difference between two scripts over a file is told by the hint."""
+`followed` gives each script that comes of a hint, and its start; `silent` says whether a difference between two scripts over a file is told by
+the hint."""
 import os
 import re
 import shlex
@@ -12,14 +13,14 @@ HERE = os.path.dirname(os.path.abspath(__file__))
 ELSE = 'then (?:works on another line|takes back something else)'
 # Options as a hint shows them, each with its value as a word of a shell.
 OPTIONS = r"(?: --\w+[ =](?:'(?:[^']|'\\'')*'|\w+))+"
-PROGRAM = os.environ.get('PROGRAM', f'{HERE}/../../crates/ed_main/out/ed_main')
+PROGRAM = os.path.abspath(os.environ.get('PROGRAM', f'{HERE}/../../crates/ed_main/out/ed_main'))
+# The words of a start that is any file of a line or more.
+SOME = ('--min', '1', '--max', 'any', 'F')
 
 
-def vouch(script, minimum, maximum, has, chains=(), path='F'):
+def vouch(script, start=SOME):
     """The status and the lines on standard error."""
-    words = [PROGRAM, 'vouch', '--min', str(minimum), '--max', str(maximum)]
-    words += [f'--has={pattern}' for pattern in has] + [f'--at={chain}' for chain in chains] + ([path] if path else [])
-    run = subprocess.run(words, input=script, capture_output=True)
+    run = subprocess.run([PROGRAM, 'vouch', *start], input=script, capture_output=True)
     return run.returncode, run.stderr.decode('utf-8', 'replace').splitlines()
 
 
@@ -58,6 +59,7 @@ def end_of_command(lines, at):
 def globally(lines, at, hint):
     """The lines with a global command in the place of those from one on, as a hint says it."""
     shown = re.match(r'`(.*?)` can\'t fail: ', hint).group(1)
+    shown = re.sub(r'\\x([0-9a-f]{2})', lambda byte: chr(int(byte[1], 16)), shown)
     end = end_of_command(lines, at)
     rest = lines[at + 1:end]
     more = re.search(r'the next (?:(\d+) commands|command), ', hint)
@@ -131,42 +133,64 @@ def mended(lines, at, hint):
     return None
 
 
-def steps(script, minimum, maximum, has, chains=()):
-    """What each hint on a script leads to: its text, the script, the bounds, the patterns and the chains of landmarks. The line that fails
-    is told too."""
-    status, said = vouch(script, minimum, maximum, has, chains)
-    found = []
-    lines = script.decode('latin-1').split('\n')
-    lines = lines[:-1] if lines and lines[-1] == '' else lines
-    place = re.match(r'error: line (\d+)', said[0]) if said else None
-    at = int(place.group(1)) - 1 if place else len(lines)
+def with_options(start, told):
+    """The words of a start with those that are told: a bound in the place of the one that is given, a pattern or a chain beside the others."""
+    start, words = list(start), shlex.split(told.replace('--has=', '--has '))
+    for option, value in zip(words[::2], words[1::2]):
+        if option in start and option in ('--min', '--max'):
+            start[start.index(option) + 1] = value
+        else:
+            start.insert(0, f'{option}={value}')
+    return start
+
+
+def lines_of(script):
+    return script.decode('latin-1').removesuffix('\n').split('\n') if script else []
+
+
+def place_of(said, lines):
+    """The line that fails by the first of what is said, from 0; where none does before the script ends, the one after all."""
+    places = (re.match(r'error: line (\d+)', line) for line in said)
+    return int(next(filter(None, places), (0, len(lines) + 1))[1]) - 1
+
+
+def followed(script, start, said):
+    """What each hint leads to that `vouch` says of the first refusal of a script: its text, the script and the words of the start."""
+    lines, refusals = lines_of(script), 0
     for line in said:
+        refusals += line.startswith('error: ')
+        if refusals > 1:
+            return
         if not line.startswith('hint: '):
             continue
-        hint = text = line[len('hint: '):]
-        least, most, stated, marked = minimum, maximum, has, list(chains)
-        both = re.match(r'with --min (\d+): (.*)', hint)
+        hint = text = line.removeprefix('hint: ')
+        new_start, new = start, lines
+        both = re.match(r'with (--min \d+): (.*)', hint)
         if both:
-            least, hint = int(both.group(1)), both.group(2)
+            new_start, hint = with_options(start, both.group(1)), both.group(2)
         options = re.fullmatch(rf'(?:vouched for|gets further|vouch) with({OPTIONS})(?: \.\.)?(?: \(.*\))?(?:, which run then tests)?', hint)
-        new = lines
         if options:
-            words = shlex.split(options.group(1).replace('--has=', '--has '))
-            for option, value in zip(words[::2], words[1::2]):
-                if option == '--min':
-                    least = int(value)
-                elif option == '--max':
-                    most = int(value)
-                elif option == '--at':
-                    marked = marked + [value]
-                else:
-                    stated = stated + [value]
+            new_start = with_options(start, options.group(1))
         else:
-            new = mended(lines, at, hint)
+            new = mended(lines, place_of(said, lines), hint)
         if new is not None:
-            joined = ('\n'.join(new) + '\n').encode('latin-1')
-            found.append((text, joined, least, most, stated, marked))
-    return status, at, lines, found
+            yield text, text_of(new), new_start
+
+
+def steps(script, start):
+    """The status of `vouch`, the line that fails, the script's lines, and what each hint leads to."""
+    status, said = vouch(script, start)
+    lines = lines_of(script)
+    return status, place_of(said, lines), lines, list(followed(script, start, said))
+
+
+def is_further(text, script, said, new, start):
+    """Whether what comes of a hint is vouched for, as its words may have it, or fails with less of it left."""
+    status, again = vouch(new, start)
+    if status == 0:
+        return not text.startswith('gets further')
+    left, new_left = (len(lines) - place_of(told, lines) for lines, told in ((lines_of(script), said), (lines_of(new), again)))
+    return not text.startswith('vouched for') and new_left < left
 
 
 def text_of(lines):
@@ -193,7 +217,7 @@ def count_of_matches(script_lines, at, files):
     _, left = left_by_gnu(text_of(script_lines[:at] + ['w snapshot-of-lines', 'Q']), files)
     if 'snapshot-of-lines' not in left or at >= len(script_lines):
         return None
-    pattern = re.search(r'([/?])((?:[^/?\\]|\\.)*)\1', script_lines[at])
+    pattern = re.search(r'([/?])((?:\[\^?\]?[^]]*\]|[^/?\\]|\\.)*)\1', script_lines[at])
     if not pattern:
         pattern = re.search(r's(.)((?:\\.|(?!\1).)*)\1', script_lines[at])
     if not pattern:
@@ -206,7 +230,7 @@ def count_of_matches(script_lines, at, files):
 def silent(lines, at, text, new, files):
     """Why the files that two scripts leave differ although the hint that leads from one to the other doesn't say so; or nothing."""
     failed, before = left_by_script(lines, files)
-    _, after = left_by_script(new.decode('latin-1').split('\n')[:-1], files)
+    _, after = left_by_script(lines_of(new), files)
     if before == after:
         return None
     if "can't fail" in text:
