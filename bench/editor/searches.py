@@ -1,6 +1,6 @@
 #!/usr/bin/env python3
 """Measures searches by a pattern through the editor beside GNU ed, sed and vim, on 1,000,000 lines of 50 bytes made by
-bench/patterns/lines.awk: the search that finds the last line, `g` that prints, `g` with `s`, and `s` on all lines. Processor seconds of
+bench/lines.py: the search that finds the last line, `g` that prints, `g` with `s`, and `s` on all lines. Processor seconds of
 user and system, the least of two runs; what takes more than 20 of them is left out, and so is GNU ed where `g` changes lines, which takes
 it a time that grows with their square. The last table is of 10,000 searches by one pattern.
 
@@ -16,6 +16,7 @@ HERE = os.path.dirname(os.path.abspath(__file__))
 sys.dont_write_bytecode = True
 sys.path.insert(1, os.path.join(HERE, ".."))
 import build  # noqa: E402 (its folder is told first)
+from lines import many  # noqa: E402
 
 PROGRAM, MARK, _ = build.chosen("ed_main", sys.argv[1:])
 # In seconds of processor time, whatever else the machine does: a run that takes longer is ended.
@@ -72,11 +73,8 @@ def main():
     environment_is_c = os.environ.setdefault("LC_ALL", "C")
     with tempfile.TemporaryDirectory() as folder:
         lines = os.path.join(folder, "lines")
-        made = subprocess.run(["awk", "-f", os.path.join(HERE, "../patterns/lines.awk")], capture_output=True, check=True).stdout
-        with open(lines, "wb") as file:
-            for _ in range(5):
-                file.write(made)
-            file.write(b"END needle 12345 x y z ab cd foo 777 abc\n")
+        with open(lines, "w") as file:
+            file.write("".join(many()) * 5 + "END needle 12345 x y z ab cd foo 777 abc\n")
         print(f"\n{MARK}Searches by patterns, through 1,000,000 lines of 50 bytes")
         print(f"processor seconds, locale {environment_is_c}; ours, sed, GNU ed, vim")
         for pattern in PATTERNS:

@@ -23,6 +23,7 @@ HERE = os.path.dirname(os.path.abspath(__file__))
 sys.dont_write_bytecode = True
 sys.path.insert(1, os.path.join(HERE, '..'))
 import build  # noqa: E402 (its folder is told first)
+from lines import many  # noqa: E402
 from rows import FASTEST, LINES, MANY, NESTED, REFERENCES, SEARCHED, SIZES, hostile  # noqa: E402
 
 PROGRAM = os.path.join(HERE, '../../crates/bre_ask/out/bre_ask')
@@ -131,7 +132,7 @@ def written(folder, name, text, times=1, ending=''):
 def many_lines(folder):
     path = os.path.join(folder, 'lines')
     with open(path, 'w') as file:
-        subprocess.run(['awk', '-f', os.path.join(HERE, 'lines.awk')], stdout=file, check=True)
+        file.writelines(many())
     return path, os.path.getsize(path)
 
 
