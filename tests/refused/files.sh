@@ -7,6 +7,7 @@
 set -uo pipefail
 export LC_ALL=C TZ=UTC
 cd "$(dirname "$0")" || exit 1
+. ../rows.sh
 program=$(cd ../.. && pwd)/crates/ed_main/out/ed_main
 work=$(mktemp -d)
 trap 'rm -rf "$work"' EXIT
@@ -15,56 +16,11 @@ if ! [ -x "$program" ] || ! cc -shared -fPIC -O1 -o "$work/files.so" files.c; th
   echo "0 passed, 1 failed"
   exit 1
 fi
-passed=0
-failed=0
 
 # The files that each run finds. Their time lies in the past, so that a write shows.
 declare -A before=([F]=$'a\nb\nc\n' [E]='' [G]=$'uvw\nxyz' [A]=$'1d\nw\nq\n' [B]=$'$p\nQ\n')
 declare -A has written met
-before[CERT]='ed-certificate 1
-path =F
-start 1 3
-note
-zone 0-.<=-1 0-$<=-1 .-0<=3 .-$<=0 $-0<=3 $-.<=0
-marks
-patterns -
-replacements none
-names =F
-changed no
-undo nothing
-note
-zone 0-.<=0 0-$<=0 .-0<=1 .-$<=0 $-0<=2 $-.<=2
-marks
-patterns -
-replacements none
-names =F
-changed yes
-undo was
-old-zone 0-.<=-1 0-$<=-1 .-0<=3 .-$<=0 $-0<=3 $-.<=0
-old-marks
-note
-zone 0-.<=0 0-$<=0 .-0<=1 .-$<=0 $-0<=2 $-.<=2
-marks
-patterns -
-replacements none
-names =F
-changed no
-undo was
-old-zone 0-.<=-1 0-$<=-1 .-0<=3 .-$<=0 $-0<=3 $-.<=0
-old-marks
-end
-zone 0-.<=0 0-$<=0 .-0<=1 .-$<=0 $-0<=2 $-.<=2
-marks
-patterns -
-replacements none
-names =F
-changed no
-undo was
-old-zone 0-.<=-1 0-$<=-1 .-0<=3 .-$<=0 $-0<=3 $-.<=0
-old-marks
-final 0 2
-writes =F
-'
+before[CERT]=$(<../verifier/first.cert)$'\n'
 before[WRONG]=${before[CERT]/final 0 2/final 0 1}
 past='640 981173106.0000000000'
 mkdir "$work/before"
@@ -245,11 +201,10 @@ on() {
   shift 4
   steps=("$@")
   if is_told_right; then
-    passed=$((passed + 1))
+    pass
     echo "$name: ${met[open]} opens, ${met[read]} reads, ${met[write]} writes and all else, each refused once"
   else
-    failed=$((failed + 1))
-    echo "$name: status $got and not $status, or another output, file or number of calls, with this refused: ${refused:-nothing}"
+    fail "$name: status $got and not $status, or another output, file or number of calls, with this refused: ${refused:-nothing}"
     cat "$work/output"
   fi
 }
@@ -330,5 +285,4 @@ on 'vouch' 0 '1d\nw\nq\n' 'vouch --min 1 --max 3 F' "says ${before[CERT]}"
 printf -v long '%0100000d' 0
 on 'more than one read takes' 0 "a\n$long\n.\nw H\nr H\n,p\nQ\n" 'edit -s' \
   "writes H $long\n" 'reads H' "says $long\n$long\n"
-echo "$passed passed, $failed failed"
-[ "$failed" -eq 0 ]
+counted
