@@ -13,8 +13,6 @@ command's, by two runs that end by `Q`, right before the command without a fault
 The two numbers of exact_scripts.py have to agree with both. One of a hundred scripts has a thousand commands. The rows of
 exact_rows.py are run first. Build the program first. 20,000 scripts take some minutes, `exact.py 300` a few seconds.
 """
-import collections
-import multiprocessing
 import os
 import random
 import shutil
@@ -24,11 +22,11 @@ import tempfile
 
 sys.dont_write_bytecode = True
 import exact_rows
+import tally
 from exact_scripts import Command, Maker, end_of
 
 PROGRAM = os.path.abspath(os.path.join(os.path.dirname(__file__), '../../crates/ed_main/out/ed_main'))
 COUNT, SEED, PROCESSES = 20_000, 1, 2
-SHOWN = 10
 SECONDS = 120
 SOME_LINES, MANY_LINES = 2_000, 100_000
 ED = shutil.which('ed')
@@ -210,24 +208,17 @@ def row_case(row, folder):
 
 def main():
     count, seed, processes = [int(word) for word in sys.argv[1:]] + [COUNT, SEED, PROCESSES][len(sys.argv) - 1:]
-    tally, shown = collections.Counter(), 0
+    kinds, _ = tally.told(case, count, seed, processes)
     with tempfile.TemporaryDirectory() as folder:
         for row in exact_rows.ROWS:
             wrong = row_case(row, folder)
-            tally['WRONG' if wrong else 'a row worked out by hand'] += 1
+            kinds['WRONG' if wrong else 'a row worked out by hand'] += 1
             if wrong:
                 print(wrong, flush=True)
-    with multiprocessing.Pool(processes) as pool:
-        for kind, wrong in pool.imap_unordered(case, ((number, seed) for number in range(count)), 16):
-            tally[kind] += 1
-            if wrong and shown < SHOWN:
-                shown += 1
-                print(wrong, flush=True)
     print(f'{len(exact_rows.ROWS)} rows, and {count} random scripts, seed {seed}:')
-    for kind, number in sorted(tally.items()):
-        print(f'{number:8} {kind}')
-    failed = tally['WRONG']
-    print(f'{sum(tally.values()) - failed} passed, {failed} failed')
+    tally.show(kinds)
+    failed = kinds['WRONG']
+    print(f'{sum(kinds.values()) - failed} passed, {failed} failed')
     sys.exit(failed > 0)
 
 

@@ -10,7 +10,6 @@ another one, `run` and `fits` print `start outside the certificate`, with status
 20,000 scripts take some minutes.
 """
 import collections
-import multiprocessing
 import os
 import random
 import re
@@ -19,10 +18,11 @@ import subprocess
 import sys
 import tempfile
 
+import tally
+
 PROGRAM = os.path.abspath(os.path.join(os.path.dirname(__file__), '../../crates/ed_main/out/ed_main'))
 COUNT, SEED, PROCESSES = 20_000, 1, 2
 RUNS = 6
-SHOWN = 10
 SECONDS = 120
 OUTSIDE = b'start outside the certificate\n'
 # Patterns, and what Python calls the same.
@@ -207,7 +207,7 @@ def case(number_and_seed):
         if not tried.is_met(certificate):
             raise Wrong(f'it states {certificate.splitlines()[3]}')
         for _ in range(RUNS):
-            runs[tried.tried(certificate)] += 1
+            runs[f'runs {tried.tried(certificate)}'] += 1
         plain = subprocess.run([PROGRAM, 'vouch', *tried.words[:4], 'F'], input=tried.script, capture_output=True, cwd=folder, timeout=SECONDS)
         return f'vouched for, and {"without patterns too" if plain.returncode == 0 else "only with patterns"}', runs, None
     except (Wrong, subprocess.TimeoutExpired) as wrong:
@@ -218,20 +218,10 @@ def case(number_and_seed):
 
 def main():
     count, seed, processes = [int(word) for word in sys.argv[1:]] + [COUNT, SEED, PROCESSES][len(sys.argv) - 1:]
-    tally, runs, shown = collections.Counter(), collections.Counter(), 0
-    with multiprocessing.Pool(processes) as pool:
-        for kind, ran, wrong in pool.imap_unordered(case, ((number, seed) for number in range(count)), 16):
-            tally[kind] += 1
-            runs += ran
-            if wrong and shown < SHOWN:
-                shown += 1
-                print(wrong, flush=True)
+    kinds, runs = tally.told(case, count, seed, processes)
     print(f'{count} random scripts, seed {seed}:')
-    for kind, number in sorted(tally.items()):
-        print(f'{number:8} {kind}')
-    for kind, number in sorted(runs.items()):
-        print(f'{number:8} runs {kind}')
-    failed = tally['WRONG']
+    tally.show(kinds, runs)
+    failed = kinds['WRONG']
     print(f'{count - failed} passed, {failed} failed')
     sys.exit(failed > 0)
 

@@ -15,7 +15,6 @@ was. Build the program first, or name one by PROGRAM. 50,000 scripts take half a
 import collections
 import copy
 import functools
-import multiprocessing
 import os
 import random
 import re
@@ -27,13 +26,13 @@ import tempfile
 HERE = os.path.dirname(os.path.abspath(__file__))
 sys.path.append(os.path.join(HERE, 'scripts'))
 import editor
+import tally
 from compare import byte, sequence, star
 from editor import Command, Fault
 
 PROGRAM = os.path.abspath(os.environ.get('PROGRAM', os.path.join(HERE, '../../crates/ed_main/out/ed_main')))
 COUNT, SEED, PROCESSES = 20_000, 1, 2
 RUNS = 6
-SHOWN = 10
 SECONDS = 120
 # A buffer of more bytes is given up, since a global may double it at each turn.
 ROOM = 1500
@@ -436,22 +435,11 @@ class Watched(Plain):
         if self.number <= len(self.notes.states):
             self.tested(self.notes.states[self.number - 1], f'note {self.number}:')
 
-    def everywhere(self, command):
-        before = self.kept()
-        first, last = self.span(command.letter, self.values(command.addresses))
-        pattern = self.remembered(command.pattern)
-        for number in range(first, last + 1):
-            line = self.lines[number - 1]
-            line.flag = self.matches(pattern, line.text) == (command.letter == 'g')
-        self.altered = False
-        while any(line.flag for line in self.lines):
+    def turn(self, number=None):
+        if number is None:
             self.tested(self.notes.loops[self.number], f'invariant of {self.number}:')
-            place = [line.flag for line in self.lines].index(True)
-            self.lines[place].flag, self.current = False, place + 1
-            for number, listed in enumerate(command.list):
-                self.tested(self.notes.inner[self.number][number], f'note {self.number}.{number + 1}:')
-                self.one(listed)
-        self.past = before if self.altered else 'same'
+        else:
+            self.tested(self.notes.inner[self.number][number], f'note {self.number}.{number + 1}:')
 
 
 class Case:
@@ -614,18 +602,10 @@ def case(number_and_seed):
 
 def main():
     count, seed, processes = [int(word) for word in sys.argv[1:]] + [COUNT, SEED, PROCESSES][len(sys.argv) - 1:]
-    tally, runs, shown = collections.Counter(), collections.Counter(), 0
-    with multiprocessing.Pool(processes) as pool:
-        for kind, ran, wrong in pool.imap_unordered(case, ((number, seed) for number in range(count)), 16):
-            tally[kind] += 1
-            runs += ran
-            if wrong and shown < SHOWN:
-                shown += 1
-                print(wrong, flush=True)
+    kinds, runs = tally.told(case, count, seed, processes)
     print(f'{count} random scripts, seed {seed}:')
-    for kind, number in [*sorted(tally.items()), *sorted(runs.items())]:
-        print(f'{number:8} {kind}')
-    failed = tally['WRONG']
+    tally.show(kinds, runs)
+    failed = kinds['WRONG']
     print(f'{count - failed} passed, {failed} failed')
     sys.exit(failed > 0)
 

@@ -9,8 +9,6 @@ write has to be the front of what it writes, but for the help mode's text of the
 the same. Where `ed` differs from both, the case is counted by what editor.py noted, and shown where it noted nothing: ../README.md says why
 `ed` differs. Build the program first.
 """
-import collections
-import multiprocessing
 import os
 import random
 import shutil
@@ -19,10 +17,10 @@ import sys
 import tempfile
 
 import editor
+import tally
 from editor import Command
 
 PROGRAM = os.path.join(editor.AGAINST, '../../crates/ed_main/out/ed_main')
-SHOWN = 20
 WORDS = ('a', 'b', 'ab', 'ba', 'x', 'abc', 'a.b', '', 'b b', 'xx')
 
 
@@ -220,17 +218,10 @@ def case(number_and_seed):
 
 def main():
     count, seed = int(sys.argv[1]), int(sys.argv[2])
-    tally, shown = collections.Counter(), 0
-    with multiprocessing.Pool(int(sys.argv[3]) if len(sys.argv) > 3 else None) as pool:
-        for kind, difference in pool.imap_unordered(case, ((number, seed) for number in range(count)), 64):
-            tally[kind] += 1
-            if difference and shown < SHOWN:
-                shown += 1
-                print(f'[{kind}] {difference}')
+    kinds, _ = tally.told(case, count, seed, int(sys.argv[3]) if len(sys.argv) > 3 else None)
     print(f'seed {seed}, {count} scripts:')
-    for kind, number in sorted(tally.items()):
-        print(f'{number:8} {kind}')
-    sys.exit(tally['DIFFERENT from the reference'] > 0)
+    tally.show(kinds)
+    sys.exit(kinds['DIFFERENT from the reference'] > 0)
 
 
 if __name__ == '__main__':

@@ -10,7 +10,7 @@ import sys
 
 sys.dont_write_bytecode = True
 AGAINST = os.path.dirname(os.path.dirname(os.path.abspath(__file__)))
-sys.path += [os.path.join(AGAINST, 'patterns'), os.path.join(AGAINST, 'substitute')]
+sys.path += [AGAINST, os.path.join(AGAINST, 'patterns'), os.path.join(AGAINST, 'substitute')]
 import reference
 from substitution import replaced
 
@@ -360,11 +360,16 @@ class Run:
             line.flag = self.matches(pattern, line.text) == (command.letter == 'g')
         self.altered = False
         while any(line.flag for line in self.lines):
+            self.turn()
             place = [line.flag for line in self.lines].index(True)
             self.lines[place].flag, self.current = False, place + 1
-            for listed in command.list:
+            for number, listed in enumerate(command.list):
+                self.turn(number)
                 self.one(listed)
         self.past = before if self.altered else 'same'
+
+    def turn(self, number=None):
+        """Comes before each turn of a list, and before each command of it, by its number: for who watches a run."""
 
     def ask(self):
         """The prompt, before each command of the script and before its end is found."""

@@ -14,7 +14,6 @@ Where there is no certificate, the plain editor runs the script up to RUNS times
 alarm was false, or the runs were too few. Build the program first.
 """
 import collections
-import multiprocessing
 import os
 import random
 import subprocess
@@ -23,9 +22,9 @@ import tempfile
 
 sys.path.append(os.path.join(os.path.dirname(os.path.abspath(__file__)), '../scripts'))
 import editor
+import tally
 from compare import PROGRAM, WORDS, Writer, ran
 
-SHOWN = 10
 LARGEST = 20
 ROOM = 4000
 RUNS = int(sys.argv[4]) if len(sys.argv) > 4 else 50
@@ -134,10 +133,10 @@ def vouched_for(script):
         files = script.start(turn)
         right, ends = plain(script, files)
         if ends is None:
-            counts['left out'] += 1
+            counts['runs: left out'] += 1
             continue
         status, wrong = script.judged(files, right, ends)
-        counts[f'status {status}'] += 1
+        counts[f'runs: status {status}'] += 1
         done.add(script.sizes[turn % len(script.sizes)])
         if wrong:
             return 'VOUCHED FOR AND NOT ALLOWED', counts, f'{wrong}\n{files} {shown}'
@@ -156,20 +155,10 @@ def case(number_and_seed):
 
 def main():
     count, seed = int(sys.argv[1]), int(sys.argv[2])
-    tally, runs, shown = collections.Counter(), collections.Counter(), 0
-    with multiprocessing.Pool(int(sys.argv[3]) if len(sys.argv) > 3 else None) as pool:
-        for kind, counts, difference in pool.imap_unordered(case, ((number, seed) for number in range(count)), 16):
-            tally[kind] += 1
-            runs += counts
-            if difference and shown < SHOWN:
-                shown += 1
-                print(f'[{kind}] {difference}', flush=True)
+    kinds, runs = tally.told(case, count, seed, int(sys.argv[3]) if len(sys.argv) > 3 else None)
     print(f'seed {seed}, {count} scripts, {RUNS} runs of each that is vouched for:')
-    for kind, number in sorted(tally.items()):
-        print(f'{number:8} {kind}')
-    for kind, number in sorted(runs.items()):
-        print(f'{number:8} runs: {kind}')
-    sys.exit(any(kind.isupper() for kind in tally))
+    tally.show(kinds, runs)
+    sys.exit(any(kind.isupper() for kind in kinds))
 
 
 if __name__ == '__main__':
