@@ -7,13 +7,15 @@ import re
 import shlex
 import shutil
 import subprocess
+import sys
 import tempfile
 
-HERE = os.path.dirname(os.path.abspath(__file__))
+sys.path.insert(0, os.path.join(os.path.dirname(os.path.abspath(__file__)), '..'))
+from rows import PROGRAM  # noqa: E402 (the path is set first)
+
 ELSE = 'then (?:works on another line|takes back something else)'
 # Options as a hint shows them, each with its value as a word of a shell.
 OPTIONS = r"(?: --\w+[ =](?:'(?:[^']|'\\'')*'|\w+))+"
-PROGRAM = os.path.abspath(os.environ.get('PROGRAM', f'{HERE}/../../crates/ed_main/out/ed_main'))
 # The words of a start that is any file of a line or more.
 SOME = ('--min', '1', '--max', 'any', 'F')
 
