@@ -4,10 +4,11 @@
     updates_exact.py [PAIRS [SEED [FOLDER..]]]
 
 PAIRS pairs of files are random, the second made from the first by removing, entering and changing lines. As many are text files of this
-machine (of FOLDER.., if any is named), those that verifier/updates.py takes first. `diff -e` makes the script, `w` and `q` are added.
+machine (of FOLDER.., if any is named), those that diff/compare.py takes first. `diff -e` makes the script, `w` and `q` are added.
 A script is exact if it has only commands that look at nothing but the number of lines; `diff -e` writes one that isn't, `s/.//`, for a line
-that is a full stop alone. Each exact script has to be vouched for over just the lines of the first file, its final bounds have to be the
-lines of the second, and `run` has to write the second file. Build the program first.
+that is a full stop alone. Each exact script has to be vouched for over exactly as many lines as the first file has, and its final bounds have to
+be the lines of the second. Where a certificate is made, `check` has to accept it, `run` has to write the second file, and with one line more
+or less in the first it has to tell that the start lies outside, and leave the file. Build the program first.
 """
 import collections
 import os
@@ -85,6 +86,13 @@ def wrong_of(old, new, script, certificate):
     if [int(bound) for bound in final.groups()] != [new.count(b'\n')] * 2:
         return f'{final[0]}, and the second file has {new.count(bytes([10]))} lines'
     put('CERT', certificate)
+    if ran(['check', 'CERT'], script).stdout != b'accepted\n':
+        return 'not accepted'
+    for start in [old + b'more\n', *old.split(b'\n', 1)[1:]]:
+        put('F', start)
+        run = ran(['run', 'CERT', '-s', 'F'], script)
+        if (run.returncode, run.stdout, got('F')) != (4, b'start outside the certificate\n', start):
+            return 'a start outside was taken'
     put('F', old)
     run = ran(['run', 'CERT', '-s', 'F'], script)
     return None if (run.returncode, run.stdout, got('F')) == (0, b'', new) else f'run: status {run.returncode}, or another file'
