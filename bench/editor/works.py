@@ -87,15 +87,14 @@ def changed_lines(n, edits):
     return [1 + i * n // edits for i in range(edits)]
 
 
-def change_rising(folder, n):
-    script = [b"%dc\nx\n.\n" % line for line in changed_lines(n, 10_000)] + [b"Q\n"]
-    return Work(folder, "rising", n, text_lines(n), script, vim=True)
-
-
-def change_at_random(folder, n):
-    lines = changed_lines(n, 10_000)
-    random.Random(1).shuffle(lines)
-    return Work(folder, "random", n, text_lines(n), [b"%dc\nx\n.\n" % line for line in lines] + [b"Q\n"], vim=True)
+def at_places(name, command, by_chance=False):
+    """A command on each of 10,000 lines, in their order or in a random one."""
+    def work(folder, n):
+        lines = changed_lines(n, 10_000)
+        if by_chance:
+            random.Random(1).shuffle(lines)
+        return Work(folder, name, n, text_lines(n), [command % line for line in lines] + [b"Q\n"], vim=True)
+    return work
 
 
 def move_all(folder, n):
@@ -126,17 +125,6 @@ def replace_in_a_long_line(folder, megabytes):
     line = itertools.chain(itertools.repeat(b"0123456789abcdef" * 64, megabytes << 10), [b"\n"])
     return Work(folder, "long", megabytes, line, [b"s/a/b/g\nQ\n"],
                 sed=["sed", "s/a/b/g"], perl=["perl", "-pe", "s/a/b/g"])
-
-
-def substitute_rising(folder, n):
-    script = [b"%ds/^/x/\n" % line for line in changed_lines(n, 10_000)] + [b"Q\n"]
-    return Work(folder, "s rising", n, text_lines(n), script, vim=True)
-
-
-def substitute_at_random(folder, n):
-    lines = changed_lines(n, 10_000)
-    random.Random(1).shuffle(lines)
-    return Work(folder, "s random", n, text_lines(n), [b"%ds/^/x/\n" % line for line in lines] + [b"Q\n"], vim=True)
 
 
 def edit_and_write(folder, n):
@@ -190,11 +178,6 @@ def grow_a_line(folder, n):
     return Work(folder, "g-grow", n, things(n), [b"2,$g/^/1,2j\nQ\n"])
 
 
-def globals_of_one_line(folder, n):
-    script = [b"%dg/^/s/^/x/\n" % line for line in changed_lines(n, 10_000)] + [b"Q\n"]
-    return Work(folder, "g of one", n, text_lines(n), script, vim=True)
-
-
 def delete_and_undo(folder, n):
     chance = random.Random(1)
     script = [b"%dd\nu\n" % chance.randint(1, n) for _ in range(5_000)] + [b"Q\n"]
@@ -215,15 +198,15 @@ WORKS = (
     ("start on a file of three lines (runs)", start, (50, 100, 200)),
     ("enter a text by a script (lines)", enter, (50_000, 100_000, 200_000)),
     ("delete lines one by one from the end (lines)", delete_from_end, (25_000, 50_000, 100_000)),
-    ("change 10,000 lines at rising places (lines)", change_rising, (250_000, 500_000, 1_000_000)),
-    ("change 10,000 lines in random order (lines)", change_at_random, (250_000, 500_000, 1_000_000)),
+    ("change 10,000 lines at rising places (lines)", at_places("rising", b"%dc\nx\n.\n"), (250_000, 500_000, 1_000_000)),
+    ("change 10,000 lines in random order (lines)", at_places("random", b"%dc\nx\n.\n", True), (250_000, 500_000, 1_000_000)),
     ("move each line to the front (lines)", move_to_front, (12_500, 25_000, 50_000)),
     ("move all lines to the front by 1,$m0 (lines)", move_all, (500_000, 1_000_000, 2_000_000)),
     ("double 1,000 lines by 1,$t$ (lines)", double, (512_000, 1_024_000, 2_048_000)),
     ("exchange two fields of each line by s (lines)", swap_fields, (50_000, 100_000, 200_000)),
     ("replace bytes in one line by s (MiB)", replace_in_a_long_line, (5, 10, 20, 50)),
-    ("10,000 times s on one line, at rising places (lines)", substitute_rising, (250_000, 500_000, 1_000_000)),
-    ("10,000 times s on one line, in random order (lines)", substitute_at_random, (250_000, 500_000, 1_000_000)),
+    ("10,000 times s on one line, at rising places (lines)", at_places("s rising", b"%ds/^/x/\n"), (250_000, 500_000, 1_000_000)),
+    ("10,000 times s on one line, in random order (lines)", at_places("s random", b"%ds/^/x/\n", True), (250_000, 500_000, 1_000_000)),
     ("search onwards in 100,000 lines (searches)", search_onwards, (250, 500, 1_000)),
     ("search around 100,000 lines (searches)", search_around, (10, 20, 40)),
     *((f"ten times {command} through lines of 50 bytes (lines)", ten_times(command.encode()), (50_000, 100_000, 200_000))
@@ -238,7 +221,7 @@ WORKS = (
     ("global: move each line to the front, g/^/m0 (lines)", reverse, (100_000, 200_000, 400_000)),
     ("global: join lines in pairs, g/^/.,+1j (lines)", join_pairs, (100_000, 200_000, 400_000)),
     ("global: join each line to the first, 2,$g/^/1,2j (lines)", grow_a_line, (1_000, 2_000, 4_000)),
-    ("global: 10,000 of one line each, Ng/^/s/^/x/, at rising places (lines)", globals_of_one_line, (250_000, 500_000, 1_000_000)),
+    ("global: 10,000 of one line each, Ng/^/s/^/x/, at rising places (lines)", at_places("g of one", b"%dg/^/s/^/x/\n"), (250_000, 500_000, 1_000_000)),
     ("global: delete each second line, and undo that three times (lines)", undo_of_a_global, (50_000, 100_000, 200_000)),
     ("undo: 5,000 times Nd and u, at random places (lines)", delete_and_undo, (50_000, 100_000, 200_000)),
     ("undo: 1,$d and then u once for each line (lines)", undo_a_block, (2_500, 5_000, 10_000)),
