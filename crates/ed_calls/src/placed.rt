@@ -1,6 +1,5 @@
 //! The landmarks that a certificate states of its start, each of which has to be where its chain says.
 ghost use Rattle.std.specs.Prelude.{◌≡◌, IfOk, IfSome, IsNone, IsSomeAnd};
-ghost use Rattle.ed_base.specs.Lines.{lines_of};
 ghost use Rattle.cert_check.specs.Certificates.{certificate_value};
 ghost use Rattle.cert_check.specs.checker.Beginning.{chains_of, landmarks_of};
 ghost use Rattle.cert_check.specs.checker.Sound.{HaveLandmarks};
@@ -8,15 +7,9 @@ ghost use Rattle.ed_calls.specs.RunOver.{lines_told};
 
 use cert_check::{Certificate, Version};
 use ed_syntax::Answer;
-use landmarks::{LandmarkChain, Misplaced, Placing, find_places, landmarks_have_one_place};
+use hints::{Missed, missed_chain};
+use landmarks::LandmarkChain;
 use std::alloc::{AllocError, Global};
-
-/// A chain of a start condition that a start doesn't have, and its first landmark that isn't where it should be.
-#[derive(Drop)]
-pub(crate) struct Missed<'c> {
-    pub(crate) chain: &'c LandmarkChain,
-    pub(crate) wrong: Misplaced,
-}
 
 /// The first chain of landmarks that a certificate states of its start and that the start doesn't have. A missing file has no lines; of a
 /// refused one none are known, and so no chain. Where none is stated no memory is taken.
@@ -48,27 +41,8 @@ fn missed_at<'c>(
         IsSomeAnd (lines_told start.now) (λ lines. HaveLandmarks lines (landmarks_of chains.now) → ⊥))) }
 {
     match start {
-        Answer::Bytes(bytes) => missed_over(alloc, chains, bytes.as_slice()),
-        Answer::Missing => missed_over(alloc, chains, b""),
+        Answer::Bytes(bytes) => missed_chain(alloc, chains, bytes.as_slice()),
+        Answer::Missing => missed_chain(alloc, chains, b""),
         Answer::Refused | Answer::Done => Ok(None),
     }
-}
-
-/// The first of these chains that a file doesn't have.
-fn missed_over<'c>(
-    alloc: Global,
-    chains: &'c [LandmarkChain],
-    file: &[u8],
-) -> Result<Option<Missed<'c>>, AllocError>
-    ensures placed { IfOk result (λ found. IsNone found → HaveLandmarks (lines_of file.now) (landmarks_of chains.now)) }
-    ensures missed { IfOk result (λ found. IfSome found (λ _. HaveLandmarks (lines_of file.now) (landmarks_of chains.now) → ⊥)) }
-{
-    landmarks_have_one_place();
-    for chain in chains {
-        match find_places(alloc, chain.landmarks(), file)? {
-            Placing::Placed(_places) => {}
-            Placing::Wrong(wrong) => return Ok(Some(Missed { chain, wrong })),
-        }
-    }
-    Ok(None)
 }

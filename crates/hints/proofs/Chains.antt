@@ -1,5 +1,5 @@
 -- Refusals one after another.
-use Rattle.std.proofs.Common.{◌≡◌, ◌<◌, ◌+◌, ℕ, List, [], ◌∷◌, ◌++◌, length, drop, get_or, Option, None, refl, sym, subst, arith, ap, map, length-append}
+use Rattle.std.proofs.Common.{◌≡◌, ◌<◌, ◌+◌, ℕ, List, [], ◌∷◌, ◌++◌, length, drop, get_or, Option, None, inl, refl, sym, subst, ◌∙◌, arith, ap, map, length-append}
 use Rattle.std.specs.List.{All, Any}
 use Rattle.std.proofs.lemmas.List.Elements.{All-head, All-same}
 use Rattle.analyser.specs.declared.analysis.Start.{Start}
@@ -13,7 +13,10 @@ use Rattle.cert_check.specs.declared.checker.verdict.Place.{Place}
 use Rattle.hints.specs.Passing.{IsAllowed, IsVouched, MoreLinesHelp, Keeps, GetsPastWhole, last_of}
 use Rattle.hints.specs.Passing as passing
 use Rattle.hints.specs.Allowing.{StaysSuited}
-use Rattle.hints.specs.Hints.{IsUnchanged, IsFrom, IsMarked, StaysSomewhere, IsTried, AsksForMore, IsStated, IsRefusal, IsMended, none, more, AreRefusals, mended, stopped, cut}
+use Rattle.hints.specs.Hints.{IsUnchanged, IsFrom, IsMarked, StaysSomewhere, IsTried, AsksForMore, IsStated}
+use Rattle.hints.specs.Refusals.{IsRefusal, GoesOnWith, hinted, passed, AreInTurn, none, more, AreRefusals, vouched, stopped, cut}
+use Rattle.hints.specs.declared.refusing.Rest.{Rest}
+use Rattle.hints.specs.declared.refusing.Rest.TheVariants as rest
 use Rattle.hints.specs.Hints as hints
 
 -- a list that isn't empty is its first element and the others
@@ -22,51 +25,52 @@ front-of [] x lt is = absurd (omega arith)
 front-of {A} (y ∷ ys) x lt is = ap (λ (z : A). z ∷ ys) (sym is)
 
 -- a refusal of what came of the earlier ones stands after them
-at-hand : (file : Option (List ℕ)) (script : List ℕ) (start : Start) (told : List Refusal) (now : List ℕ) (opened : Start) (r : Refusal) → IsMended file script start told now opened →
-    r.script ≡ now → r.start ≡ opened → IsMended file script start told r.script r.start
-at-hand file script start told now opened r is-mended same also =
-    subst (λ (s : Start). IsMended file script start told r.script s) (sym also) (subst (λ (s : List ℕ). IsMended file script start told s opened) (sym same) is-mended)
+at-hand : (file : Option (List ℕ)) (script : List ℕ) (start : Start) (told : List Refusal) (now : List ℕ) (opened : Start) (r : Refusal) → AreInTurn file script start told now opened →
+    r.script ≡ now → r.start ≡ opened → AreInTurn file script start told r.script r.start
+at-hand file script start told now opened r in-turn same also =
+    subst (λ (s : Start). AreInTurn file script start told r.script s) (sym also) (subst (λ (s : List ℕ). AreInTurn file script start told s opened) (sym same) in-turn)
 
 -- it is the last one where it has no hint
-pub stops : (file : Option (List ℕ)) (script : List ℕ) (start : Start) (told all : List Refusal) (now : List ℕ) (opened : Start) (r : Refusal) → IsMended file script start told now opened →
-    IsRefusal file r → r.script ≡ now → r.start ≡ opened → r.hints.items ≡ [] → all ≡ told ++ r ∷ [] → AreRefusals file script start all
-stops file script start told all now opened r is-mended is same also hints pushed =
-    subst (λ (rs : List Refusal). AreRefusals file script start rs) (sym pushed) (stopped told r (at-hand file script start told now opened r is-mended same also) is hints)
+pub stops : (file : Option (List ℕ)) (script : List ℕ) (start : Start) (told all : List Refusal) (now : List ℕ) (opened : Start) (r : Refusal) → AreInTurn file script start told now opened →
+    IsRefusal file r → r.script ≡ now → r.start ≡ opened → r.hints.items ≡ [] → all ≡ told ++ r ∷ [] → AreRefusals file script start all rest.Unmended
+stops file script start told all now opened r in-turn is same also hints pushed =
+    subst (λ (rs : List Refusal). AreRefusals file script start rs rest.Unmended) (sym pushed) (stopped told r (at-hand file script start told now opened r in-turn same also) is hints)
 
--- there is no further one where what came of the earlier ones is vouched for
-pub ends : (file : Option (List ℕ)) (script : List ℕ) (start : Start) (told : List Refusal) (now read : List ℕ) (opened : Start) → IsMended file script start told now opened → read ≡ now →
-    IsVouched (script_of read) opened → AreRefusals file script start told
-ends file script start told now read opened is-mended same vouched =
-    mended told now opened is-mended (subst (λ (s : List ℕ). IsVouched (script_of s) opened) same vouched)
+-- there is no further one where what is looked at after the earlier ones is vouched for
+pub ends : (file : Option (List ℕ)) (script : List ℕ) (start : Start) (told : List Refusal) (now read : List ℕ) (opened : Start) → AreInTurn file script start told now opened → read ≡ now →
+    IsVouched (script_of read) opened → AreRefusals file script start told rest.Vouched
+ends file script start told now read opened in-turn same is =
+    vouched told now opened in-turn (subst (λ (s : List ℕ). IsVouched (script_of s) opened) same is)
 
 -- where none came, the script and the start are the first ones
-none-mended : (file : Option (List ℕ)) (script : List ℕ) (start : Start) (told : List Refusal) (now : List ℕ) (then : Start) → IsMended file script start told now then → told ≡ [] →
+none-before : (file : Option (List ℕ)) (script : List ℕ) (start : Start) (told : List Refusal) (now : List ℕ) (then : Start) → AreInTurn file script start told now then → told ≡ [] →
     IsVouched (script_of now) then → IsVouched (script_of script) start
-none-mended file script start told now then none over vouched = vouched
-none-mended file script start told now then (more before r h hs is-mended is hints) over vouched =
+none-before file script start told now then none over is = is
+none-before file script start told now then (more before r on so in-turn refused goes) over is =
     absurd (omega (arith, simp length-append at (ap length over)))
 
 -- so there are none only where the script is vouched for
-pub none-told : (file : Option (List ℕ)) (script : List ℕ) (start : Start) (told : List Refusal) → AreRefusals file script start told → told ≡ [] → IsVouched (script_of script) start
-none-told file script start told (mended all now then is-mended vouched) over = none-mended file script start told now then is-mended over vouched
-none-told file script start told (stopped before r is-mended is hints) over = absurd (omega (arith, simp length-append at (ap length over)))
-none-told file script start told (cut all now then is-mended many) over = absurd (omega (arith, many, ap length over))
+pub none-told : (file : Option (List ℕ)) (script : List ℕ) (start : Start) (told : List Refusal) (after : Rest) → AreRefusals file script start told after → told ≡ [] →
+    IsVouched (script_of script) start
+none-told file script start told after (vouched all now then in-turn is) over = none-before file script start told now then in-turn over is
+none-told file script start told after (stopped before r in-turn is hints) over = absurd (omega (arith, simp length-append at (ap length over)))
+none-told file script start told after (cut all now then in-turn many) over = absurd (omega (arith, many, ap length over))
 
--- or it is mended too, as its first hint says
-pub goes-on : (file : Option (List ℕ)) (script : List ℕ) (start : Start) (told all : List Refusal) (now later : List ℕ) (opened bounded : Start) (r : Refusal) (h : Hint) (hs : List Hint) →
-    IsMended file script start told now opened → IsRefusal file r → r.script ≡ now → r.start ≡ opened → r.hints.items ≡ h ∷ hs → all ≡ told ++ r ∷ [] →
-    later ≡ h.script → bounded ≡ h.start → IsMended file script start all later bounded
-goes-on file script start told all now later opened bounded r h hs is-mended is same also hints pushed reads starts =
-    subst (λ (s : Start). IsMended file script start all later s) (sym starts)
-    (subst (λ (s : List ℕ). IsMended file script start all s h.start) (sym reads)
-    (subst (λ (rs : List Refusal). IsMended file script start rs h.script h.start) (sym pushed)
-    (more told r h hs (at-hand file script start told now opened r is-mended same also) is hints)))
+-- or it is mended too
+pub goes-on : (file : Option (List ℕ)) (script : List ℕ) (start : Start) (told all : List Refusal) (now later : List ℕ) (opened bounded : Start) (r : Refusal) →
+    AreInTurn file script start told now opened → IsRefusal file r → r.script ≡ now → r.start ≡ opened → GoesOnWith r later bounded → all ≡ told ++ r ∷ [] →
+    AreInTurn file script start all later bounded
+goes-on file script start told all now later opened bounded r in-turn is same also goes pushed =
+    subst (λ (rs : List Refusal). AreInTurn file script start rs later bounded) (sym pushed)
+    (more told r later bounded (at-hand file script start told now opened r in-turn same also) is goes)
 
--- what a first hint says has bounds that are allowed
-pub stays-allowed : (file : Option (List ℕ)) (r : Refusal) (h : Hint) (hs : List Hint) (bounded : Start) → IsRefusal file r → r.hints.items ≡ h ∷ hs → bounded ≡ h.start → IsAllowed bounded
-stays-allowed file r h hs bounded is hints starts =
+-- what is looked at after a refusal has bounds that are allowed
+pub stays-allowed : (file : Option (List ℕ)) (r : Refusal) (now : List ℕ) (bounded opened : Start) → IsRefusal file r → GoesOnWith r now bounded → r.start ≡ opened → IsAllowed opened →
+    IsAllowed bounded
+stays-allowed file r now bounded opened is (hinted h hs hints reads starts) same allowed =
     let tried : IsTried r.script r.start r.place h = All-head (IsTried r.script r.start r.place) h hs (All-same (IsTried r.script r.start r.place) _ _ (sym hints) is.tried) in
     subst IsAllowed (sym starts) tried.allowed
+stays-allowed file r now bounded opened is (passed without over starts) same allowed = subst IsAllowed (sym (starts ∙ same)) allowed
 
 -- a hint of a script and a start that were tried, over a start that keeps what another one says
 pub tried-by : (old : List ℕ) (given : Start) (place : Place) (h : Hint) (script : List ℕ) (start : Start) (count : ℕ) → Keeps given start →
@@ -120,10 +124,10 @@ refused-as file r script start read opened reads opens same also fails tried sui
 
 -- before the first refusal
 pub begins : (file : Option (List ℕ)) (script : List ℕ) (start : Start) (told : List Refusal) (now : List ℕ) (opened : Start) → told ≡ [] → now ≡ script → opened ≡ start →
-    IsMended file script start told now opened
+    AreInTurn file script start told now opened
 begins file script start told now opened over same also =
-    subst (λ (rs : List Refusal). IsMended file script start rs now opened) (sym over)
-    (subst (λ (s : List ℕ). IsMended file script start [] s opened) (sym same) (subst (λ (s : Start). IsMended file script start [] script s) (sym also) none))
+    subst (λ (rs : List Refusal). AreInTurn file script start rs now opened) (sym over)
+    (subst (λ (s : List ℕ). AreInTurn file script start [] s opened) (sym same) (subst (λ (s : Start). AreInTurn file script start [] script s) (sym also) none))
 
 -- and then there are none
 pub begins-count : (told : List Refusal) → told ≡ [] → length told ≡ 0

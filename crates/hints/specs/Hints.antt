@@ -1,20 +1,17 @@
--- What a hint promises, and which refusals are told of a script (our own).
-use Rattle.std.specs.Prelude.{◌≡◌, ◌+◌, ◌-◌, ◌<◌, ◌⊎◌, ℕ, List, [], ◌∷◌, ◌++◌, false, Option, Some, None, is_some, map, length, All, Any}
+-- What a hint promises (our own).
+use Rattle.std.specs.Prelude.{◌≡◌, ◌+◌, ◌-◌, ◌<◌, ◌⊎◌, ℕ, List, [], ◌∷◌, ◌++◌, false, Option, Some, is_some, length, Any}
 use Rattle.ed_base.specs.declared.fault.Fault.{Fault}
 use Rattle.ed_syntax.specs.Commands.{Script}
 use Rattle.ed_syntax.specs.Changed.{BeginAlike, IsChangedAt, IsReadFurther}
 use Rattle.ed_syntax.specs.reading.Reading.{script_of}
 use Rattle.cert_check.specs.declared.checker.verdict.Place.{Place}
-use Rattle.cert_check.specs.Certificates.{Note, note_value}
+use Rattle.cert_check.specs.Certificates.{Note}
 use Rattle.analyser.specs.declared.analysis.Start.{Start}
-use Rattle.analyser.specs.Analysis.{IsFailure}
 use Rattle.hints.specs.declared.hint.Change.{Change}
 use Rattle.hints.specs.declared.hint.Hint.{Hint}
-use Rattle.hints.specs.declared.refusing.Refusal.{Refusal}
-use Rattle.hints.specs.Passing.{IsAllowed, IsVouched, with_min, MoreLinesHelp, Keeps, GetsPastWhole, last_of}
+use Rattle.hints.specs.Passing.{IsAllowed, IsVouched, with_min, Keeps, GetsPastWhole, last_of}
 use Rattle.hints.specs.Sought.{to_state, stating, StatingHelps}
 use Rattle.hints.specs.Nowhere.{IsNowhere}
-use Rattle.hints.specs.Allowing.{StaysSuited}
 use Rattle.hints.specs.Landmarks.{StatesLandmarks}
 
 -- HOW A HINT'S SCRIPT COMES FROM THE ONE THAT IS REFUSED
@@ -107,33 +104,3 @@ abbrev pub IsStated : (script : List ℕ) → Start → Place → Fault → List
 IsStated script start place why notes hints =
     let patterns = to_state (script_of script) place why notes in
     StatingHelps (script_of script) start place patterns → Any (States script start patterns) hints
-
--- A refusal is the first need that fails of its script over its start. Its hints were tried. Where a file is at hand that the start allows, the
--- start of each hint allows it too. Where none is, one of them asks for more lines, and one states the patterns to state, where that helps.
-pub record IsRefusal (file : Option (List ℕ)) (r : Refusal) : Type 0 where
-  pub fails : IsFailure (script_of r.script) r.start r.place r.why (map note_value r.notes.items)
-  pub tried : All (IsTried r.script r.start r.place) r.hints.items
-  pub suited : All (λ h. StaysSuited file r.start h.start) r.hints.items
-  pub asks : file ≡ None → MoreLinesHelp (script_of r.script) r.start → Any (AsksForMore r.script r.start) r.hints.items
-  pub states : file ≡ None → IsStated r.script r.start r.place r.why (map note_value r.notes.items) r.hints.items
-
--- Refusals that were mended, each as its first hint says, and what script and start came of it. The first is one of this script over
--- this start, each later one of what the one before it left.
-pub data IsMended (file : Option (List ℕ)) (script : List ℕ) (start : Start) : (told : List Refusal) → (now : List ℕ) → (then : Start) → Type 0 where
-  none : IsMended file script start [] script start
-  more : (told : List Refusal) (r : Refusal) (h : Hint) (hs : List Hint) → IsMended file script start told r.script r.start → IsRefusal file r →
-      r.hints.items ≡ h ∷ hs → IsMended file script start (told ++ r ∷ []) h.script h.start
-
--- at most so many refusals are told of one script
-abbrev pub most_refusals : ℕ
-most_refusals = 10
-
--- The refusals that are told of a script over a start. They end where what came of them is vouched for, with one that has no hint, or where
--- they are as many as are told.
-pub data AreRefusals (file : Option (List ℕ)) (script : List ℕ) (start : Start) : List Refusal → Type 0 where
-  mended : (told : List Refusal) (now : List ℕ) (then : Start) → IsMended file script start told now then → IsVouched (script_of now) then →
-      AreRefusals file script start told
-  stopped : (told : List Refusal) (r : Refusal) → IsMended file script start told r.script r.start → IsRefusal file r → r.hints.items ≡ [] →
-      AreRefusals file script start (told ++ r ∷ [])
-  cut : (told : List Refusal) (now : List ℕ) (then : Start) → IsMended file script start told now then → length told ≡ most_refusals →
-      AreRefusals file script start told

@@ -8,6 +8,7 @@ pub mod Like
 pub mod Allowing
 -- what hints promise, over scripts as they are read from bytes (`script_of`)
 pub mod Hints
+pub mod Refusals
 -- which words a start has
 pub mod Shown
 pub mod StartWords

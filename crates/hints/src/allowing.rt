@@ -1,6 +1,6 @@
 //! Whether a file is one that a start allows, by the tests that a run makes of it for a certificate.
 
-ghost use Rattle.std.specs.Prelude.{◌≡◌, ◌↔◌, [], length, unwrap_or, IfOk, IsTrue};
+ghost use Rattle.std.specs.Prelude.{◌≡◌, ◌↔◌, [], length, unwrap_or, IfOk, IfSome, IsNone, IsTrue};
 ghost use Rattle.std.specs.List.{list_all, list_any};
 ghost use Rattle.ed_base.specs.Lines.{lines_of};
 ghost use Rattle.ed_syntax.specs.meaning.Values.{matches};
@@ -13,7 +13,9 @@ ghost use Rattle.hints.specs.Allowing.{AllowsFile};
 use analyser::Start;
 use ed_base::{Bytes, count_lines};
 use ed_rules::{LineBounds, Texts, some_line_matches};
-use landmarks::{LandmarkChain, LandmarkChains, Placing, find_places, landmarks_have_one_place};
+use landmarks::{
+    LandmarkChain, LandmarkChains, Misplaced, Placing, find_places, landmarks_have_one_place,
+};
 use std::alloc::{AllocError, Global};
 
 /// Whether a file is one that a start allows: it has as many lines as that may have, a line for each pattern that it states, and its landmarks.
@@ -76,12 +78,31 @@ fn matches_each(alloc: Global, patterns: &[Bytes], file: &[u8]) -> Result<bool, 
 fn has_landmarks(alloc: Global, chains: &[LandmarkChain], file: &[u8]) -> Result<bool, AllocError>
     ensures exact { IfOk result (λ yes. IsTrue yes ↔ HaveLandmarks (lines_of file.now) (landmarks_of chains.now)) }
 {
+    Ok(missed_chain(alloc, chains, file)?.is_none())
+}
+
+/// A chain of landmarks that a file doesn't have, and its first landmark that isn't where it should be.
+#[derive(Debug, Drop)]
+pub struct Missed<'c> {
+    pub chain: &'c LandmarkChain,
+    pub wrong: Misplaced,
+}
+
+/// The first of these chains that a file doesn't have.
+pub fn missed_chain<'c>(
+    alloc: Global,
+    chains: &'c [LandmarkChain],
+    file: &[u8],
+) -> Result<Option<Missed<'c>>, AllocError>
+    ensures placed { IfOk result (λ found. IsNone found → HaveLandmarks (lines_of file.now) (landmarks_of chains.now)) }
+    ensures missed { IfOk result (λ found. IfSome found (λ _. HaveLandmarks (lines_of file.now) (landmarks_of chains.now) → ⊥)) }
+{
     landmarks_have_one_place();
     for chain in chains {
         match find_places(alloc, chain.landmarks(), file)? {
             Placing::Placed(_places) => {}
-            Placing::Wrong(_wrong) => return Ok(false),
+            Placing::Wrong(wrong) => return Ok(Some(Missed { chain, wrong })),
         }
     }
-    Ok(true)
+    Ok(None)
 }

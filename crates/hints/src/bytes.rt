@@ -1,6 +1,6 @@
 //! Parts of bytes. Clauses speak of few of them: what is made of them is tried.
 
-ghost use Rattle.std.specs.Prelude.{◌≡◌, take};
+ghost use Rattle.std.specs.Prelude.{◌≡◌, drop, take};
 
 use ed_base::Bytes;
 use std::alloc::{AllocError, Global};
@@ -16,7 +16,9 @@ pub(crate) fn before(bytes: &[u8], place: usize) -> &[u8]
 }
 
 /// The bytes from a place on, or none.
-pub(crate) fn from(bytes: &[u8], place: usize) -> &[u8] {
+pub(crate) fn from(bytes: &[u8], place: usize) -> &[u8]
+    ensures value { result.now ≡ drop place bytes.now }
+{
     match bytes.get(place..) {
         Some(rest) => rest,
         None => &[],

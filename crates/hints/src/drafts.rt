@@ -84,6 +84,12 @@ impl Spot<'_> {
         )
     }
 
+    /// The numbers that the lines of a script, which has others in the place of the command, have in the one that was given.
+    pub fn numbering_of(&self, new: &[u8]) -> Result<Numbering, AllocError> {
+        self.numbering
+            .changed(self.alloc, self.script, new, self.span.line, false)
+    }
+
     /// The addresses of the command, with the blanks after them, and what comes then.
     pub fn parts(&self) -> Result<(&[u8], &[u8]), AllocError> {
         let len = addresses_len(self.alloc, self.command)?;
@@ -130,7 +136,7 @@ impl Spot<'_> {
         let other = self.with(joined(alloc, &[global.as_slice(), b"\n"])?.as_slice())?;
         let read = read_script(alloc, other.as_slice())?;
         let on = on_text(&read, number, 1, self.path);
-        let lines = self.numbering.mended(alloc, self.script, other.as_slice())?;
+        let lines = self.numbering_of(other.as_slice())?;
         let later = other_text(alloc, other.as_slice(), &read, &lines, number, true, true)?;
         let both = format!(in alloc;
             "{text}; {shown} can't fail: it changes every line that matches, none if none does{on}{later}"

@@ -142,9 +142,7 @@ fn push_alternatives(spot: &Spot<'_>, drafts: &mut Vec<Draft>, found: Quoted) ->
             let mended = spot.with(lines.as_slice())?;
             let all = read_script(alloc, mended.as_slice())?;
             let last = spot.place.command.saturating_add(added);
-            let lines = spot
-                .numbering
-                .mended(alloc, spot.script, mended.as_slice())?;
+            let lines = spot.numbering_of(mended.as_slice())?;
             let other = other_text(alloc, mended.as_slice(), &all, &lines, last, false, false)?;
             let text = format!(in alloc; "POSIX has no `\\|`: write a command for each{other}")?;
             let written = added.saturating_add(1);

@@ -33,6 +33,7 @@ mod narrowing;
 mod nowhere;
 mod numbering;
 mod passing;
+mod passing_over;
 mod patterns;
 mod plain;
 mod proposing;
@@ -55,7 +56,7 @@ mod widest;
 mod wording;
 mod words;
 
-pub use allowing::allows_file;
+pub use allowing::{Missed, allows_file, missed_chain};
 pub use given::Given;
 pub use hidden::is_hidden;
 pub use hint::{Advice, Change, Hint, Remark};
@@ -64,7 +65,7 @@ pub use like::{Like, fullest_like, given_like, is_by_numbers, like_start, names_
 pub use nowhere::no_file_has;
 pub use passing::gets_past;
 pub use plain::plain_start;
-pub use refusing::{MOST_REFUSALS, Refusal, first_refusal, refusals};
+pub use refusing::{Refusal, Rest, first_refusal, refusals};
 pub use respelling::{Respelling, respellings};
 pub use starts::{copy_of, greatest_start, least_start};
 pub use suiting::{hints, remarks};

@@ -6,10 +6,12 @@ ghost use Rattle.ed_syntax.specs.reading.Reading.{script_of};
 ghost use Rattle.ed_rules.specs.LineBounds.{most_lines, IsAtMost};
 ghost use Rattle.hints.specs.declared.hint.Hint.{Hint};
 ghost use Rattle.hints.specs.Passing.{IsVouched};
-ghost use Rattle.hints.specs.Hints.{most_refusals, IsRefusal, AreRefusals};
+ghost use Rattle.hints.specs.Refusals.{most_refusals, IsRefusal, GoesOnWith, AreRefusals};
 
+use crate::commands::span_of;
 use crate::hint::{Hint, Remark};
 use crate::numbering::Numbering;
+use crate::passing_over::passed_over;
 use crate::starts::copy_of;
 use crate::suiting::{numbered_hints, numbered_remarks};
 use analyser::{Analysis, Start, analyse};
@@ -19,7 +21,18 @@ use ed_syntax::read_script;
 use std::alloc::{AllocError, Global};
 
 /// How many refusals are told at most.
-pub const MOST_REFUSALS: usize = 10;
+const MOST_REFUSALS: usize = 10;
+
+/// What comes after the refusals that are told of a script.
+#[derive(Clone, Copy, Debug, PartialEq, Eq)]
+pub enum Rest {
+    /// What is looked at after them is vouched for.
+    Vouched,
+    /// It isn't looked at: the last one has no hint, and its command isn't passed over.
+    Unmended,
+    /// It isn't looked at, since they are as many as are told.
+    Cut,
+}
 
 /// The first need that fails of a script over a start, and what may be written.
 #[derive(Debug, Drop)]
@@ -41,7 +54,7 @@ pub struct Refusal {
 
 impl Refusal {
     /// The script and the start as the first hint has them.
-    fn mended(&self) -> Result<Option<(Bytes, Start)>, AllocError>
+    fn hinted(&self) -> Result<Option<(Bytes, Start)>, AllocError>
         ensures value { IfOk result (λ found. MatchOption found (self.now.hints.items ≡ [])
             (λ (script, start). (h : Hint) × (hs : List Hint) × (self.now.hints.items ≡ h ∷ hs) × (script ≡ h.script) × (start ≡ h.start))) }
     {
@@ -49,6 +62,32 @@ impl Refusal {
             [hint, ..] => Ok(Some((hint.script.try_copy()?, copy_of(&hint.start)?))),
             [] => Ok(None),
         }
+    }
+
+    /// The script and the start that are looked at after this refusal: as the first hint has them, or, where there is none, the script without
+    /// the command at the place. None where that can't be said.
+    fn mended(&self, alloc: Global) -> Result<Option<(Bytes, Start)>, AllocError>
+        ensures value { IfOk result (λ found. MatchOption found (self.now.hints.items ≡ []) (λ (script, start). GoesOnWith self.now script start)) }
+    {
+        if let Some(hinted) = self.hinted()? {
+            return Ok(Some(hinted));
+        }
+        match passed_over(alloc, self.script.as_slice(), self.place)? {
+            Some(script) => Ok(Some((script, copy_of(&self.start)?))),
+            None => Ok(None),
+        }
+    }
+
+    /// The lines and commands of the script that is looked at after this refusal, by their numbers in the script that was given.
+    fn numbering_of(&self, alloc: Global, mended: &[u8]) -> Result<Numbering, AllocError> {
+        let script = self.script.as_slice();
+        let line = match span_of(alloc, script, self.place.command)? {
+            Some(span) => span.line,
+            None => usize::MAX,
+        };
+        let is_passed = self.hints.is_empty();
+        self.numbering
+            .changed(alloc, script, mended, line, is_passed)
     }
 }
 
@@ -112,22 +151,22 @@ pub fn first_refusal(
     refusal_of(alloc, script, start, file, Numbering::same())
 }
 
-/// The refusals of a script over a start, at most ten: each later one is found with the earlier ones mended, as the first hint of each
-/// says. Where that states more of the start, the next one is over that start. A refusal without a hint is the last one; else fewer than ten come
-/// only where what the last one's first hint says is vouched for. Where a file is at hand that the start allows, the start of each hint allows it
+/// The refusals of a script over a start, at most ten, and what comes after them: each later one is found with the earlier ones mended, as the
+/// first hint of each says. Where that states more of the start, the next one is over that start. The command of a refusal without a hint is
+/// passed over; where that can't be, the refusal is the last one. Where a file is at hand that the start allows, the start of each hint allows it
 /// too. Lines are told by their numbers in the script that was given.
 pub fn refusals(
     alloc: Global,
     script: &[u8],
     start: &Start,
     file: Option<&Bytes>,
-) -> Result<Vec<Refusal>, AllocError>
+) -> Result<(Vec<Refusal>, Rest), AllocError>
     requires ordered { IsAtMost start.now.min start.now.max }
     requires low { start.now.min ≤ most_lines }
     requires high { IfSome start.now.max (λ most. most ≤ most_lines) }
-    ensures each { IfOk result (λ found. AreRefusals (option_copied file.entry) script.now start.now found.items) }
-    ensures none { IfOk result (λ found. found.items ≡ [] → IsVouched (script_of script.now) start.now) }
-    ensures few { IfOk result (λ found. length found.items ≤ most_refusals) }
+    ensures each { IfOk result (λ (found, rest). AreRefusals (option_copied file.entry) script.now start.now found.items rest) }
+    ensures none { IfOk result (λ (found, rest). found.items ≡ [] → IsVouched (script_of script.now) start.now) }
+    ensures few { IfOk result (λ (found, rest). length found.items ≤ most_refusals) }
 {
     let mut found = Vec::new(alloc);
     let mut current = Bytes::from_slice(alloc, script)?;
@@ -135,21 +174,20 @@ pub fn refusals(
     let mut numbering = Numbering::same();
     'turns: for turn in 0..MOST_REFUSALS {
         let Some(refusal) = refusal_of(alloc, current.as_slice(), &opened, file, numbering)? else {
-            return Ok(found);
+            return Ok((found, Rest::Vouched));
         };
-        match refusal.mended()? {
+        match refusal.mended(alloc)? {
             None => {
                 found.push(refusal)?;
-                return Ok(found);
+                return Ok((found, Rest::Unmended));
             }
             Some((mended, bounded)) => {
-                let lines = &refusal.numbering;
-                numbering = lines.mended(alloc, current.as_slice(), mended.as_slice())?;
+                numbering = refusal.numbering_of(alloc, mended.as_slice())?;
                 found.push(refusal)?;
                 current = mended;
                 opened = bounded;
             }
         }
     }
-    Ok(found)
+    Ok((found, Rest::Cut))
 }

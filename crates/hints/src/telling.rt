@@ -21,8 +21,8 @@ use std::alloc::{AllocError, Global};
 use zones::{Name, Zone};
 
 /// A command by its number, or by that and its number in the command's list.
-fn number_text(alloc: Global, place: Place) -> Result<String, AllocError> {
-    let number = place.command;
+fn number_text(alloc: Global, place: Place, numbering: &Numbering) -> Result<String, AllocError> {
+    let number = numbering.command(place.command);
     match place.inner {
         Some(inner) => Ok(format!(in alloc; "{number}.{inner}")?),
         None => Ok(format!(in alloc; "{number}")?),
@@ -30,11 +30,15 @@ fn number_text(alloc: Global, place: Place) -> Result<String, AllocError> {
 }
 
 /// What fails, where a line of the script has it.
-fn command_told(failed: &Failed<'_>, span: Span) -> Result<ToldLine, AllocError> {
+fn command_told(
+    failed: &Failed<'_>,
+    span: Span,
+    numbering: &Numbering,
+) -> Result<ToldLine, AllocError> {
     let alloc = failed.alloc;
     let bytes = command_at(failed.script, span);
     let command = ShownCommand {
-        number: Some(number_text(alloc, failed.place)?),
+        number: Some(number_text(alloc, failed.place, numbering)?),
         text: quoted(alloc, bytes)?,
     };
     let failure = Failure {
@@ -47,22 +51,28 @@ fn command_told(failed: &Failed<'_>, span: Span) -> Result<ToldLine, AllocError>
 }
 
 /// The last command of the script, by its line.
-fn last_command(failed: &Failed<'_>) -> Result<Option<ShownCommand>, AllocError> {
+fn last_command(
+    failed: &Failed<'_>,
+    numbering: &Numbering,
+) -> Result<Option<ShownCommand>, AllocError> {
     let (alloc, script) = (failed.alloc, failed.script);
     let number = failed.place.command.saturating_sub(1);
     match span_of(alloc, script, number)? {
-        Some(span) => Ok(Some(ShownCommand {
-            number: Some(format!(in alloc; "{number}")?),
-            text: quoted(alloc, command_at(script, line_of_span(script, span)))?,
-        })),
+        Some(span) => {
+            let shown = numbering.command(number);
+            Ok(Some(ShownCommand {
+                number: Some(format!(in alloc; "{shown}")?),
+                text: quoted(alloc, command_at(script, line_of_span(script, span)))?,
+            }))
+        }
         None => Ok(None),
     }
 }
 
 /// What fails at the end.
-fn end_told(failed: &Failed<'_>) -> Result<ToldLine, AllocError> {
+fn end_told(failed: &Failed<'_>, numbering: &Numbering) -> Result<ToldLine, AllocError> {
     let failure = Failure {
-        command: last_command(failed)?,
+        command: last_command(failed, numbering)?,
         at_end: true,
         fault: failed.why,
         reason: reason(failed, b"")?,
@@ -71,10 +81,10 @@ fn end_told(failed: &Failed<'_>) -> Result<ToldLine, AllocError> {
     Ok(ToldLine::of_failure(failed.alloc, lines, failure))
 }
 
-fn failure_told(failed: &Failed<'_>) -> Result<ToldLine, AllocError> {
+fn failure_told(failed: &Failed<'_>, numbering: &Numbering) -> Result<ToldLine, AllocError> {
     match line_at(failed.alloc, failed.script, failed.place)? {
-        Some(span) => command_told(failed, span),
-        None => end_told(failed),
+        Some(span) => command_told(failed, span, numbering),
+        None => end_told(failed, numbering),
     }
 }
 
@@ -114,6 +124,12 @@ fn known_text(alloc: Global, state: &KeptState) -> Result<String, AllocError> {
 /// What is known where no file comes.
 const NOTHING: &str = "nothing can come here";
 
+/// Tells after the rest what to write.
+fn push_hint(alloc: Global, told: &mut ToldLine, text: &str) -> Result<(), AllocError> {
+    told.more.push(Said::Hint(String::from_str(alloc, text)?))?;
+    Ok(())
+}
+
 /// What is told of a refusal.
 fn told_of(
     failed: &Failed<'_>,
@@ -122,18 +138,16 @@ fn told_of(
     numbering: &Numbering,
 ) -> Result<ToldLine, AllocError> {
     let alloc = failed.alloc;
-    let mut told = failure_told(failed)?;
+    let mut told = failure_told(failed, numbering)?;
     told.line = numbering.line(told.line);
     if let Some(state) = failed.state {
         told.more.push(Said::Known(known_text(alloc, state)?))?;
     }
     for hint in hints {
-        told.more
-            .push(Said::Hint(String::from_str(alloc, hint.text())?))?;
+        push_hint(alloc, &mut told, hint.text())?;
     }
     for remark in remarks {
-        told.more
-            .push(Said::Hint(String::from_str(alloc, remark.text())?))?;
+        push_hint(alloc, &mut told, remark.text())?;
     }
     Ok(told)
 }

@@ -2,7 +2,6 @@
 ghost use Rattle.hints.specs.Passing.{IsAllowed};
 
 use crate::landmarked::TooFewLetters;
-use crate::placed::Missed;
 use crate::starts::Starts;
 use crate::stderr::command_line::quoted;
 use crate::stderr::file_name::{shell_option, shell_word, start_name};
@@ -20,7 +19,7 @@ use cert_check::{CertFault, Certificate, Place, Verdict, Version};
 use ed_base::{Bytes, Fault, count_lines};
 use ed_session::Session;
 use ed_syntax::{Answer, Ending, Script};
-use hints::{Said, ToldLine};
+use hints::{Missed, Said, ToldLine};
 use landmarks::LandmarkChain;
 use line_store::LineStore;
 use remarks::{Remarked, remarks};

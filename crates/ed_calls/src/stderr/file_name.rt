@@ -2,8 +2,9 @@
 ghost use Rattle.std.specs.Prelude.{◌≡◌, codes, nat_eq};
 ghost use Rattle.std.specs.List.{ends_with};
 
-use crate::stderr::shown::{escaped, is_hidden, shown};
+use crate::stderr::shown::{escaped, shown};
 use ed_base::Bytes;
+use hints::is_hidden;
 use std::alloc::{AllocError, Global};
 
 /// What the name of a script ends in, by custom.
@@ -12,7 +13,7 @@ const SCRIPT: &[u8] = b".ed";
 /// The front of a name between double quotes. Bytes that would end the line, aren't text, or can't be seen, are escaped.
 pub fn quoted_name(alloc: Global, path: &[u8]) -> Result<String, AllocError> {
     match str::from_utf8(path) {
-        Ok(text) if !text.chars().any(is_hidden) => {
+        Ok(text) if !text.chars().any(|character| is_hidden(character)) => {
             let front = shown(alloc, text)?;
             let front = front.as_str();
             Ok(format!(in alloc; "{front:?}")?)

@@ -7,7 +7,7 @@ use crate::stderr::unreadable::push_mark;
 use analyser::{Analysis, Start};
 use cert_check::Place;
 use ed_base::{Bytes, Fault};
-use hints::{Failure, MOST_REFUSALS, Refusal, Said, ShownCommand, ToldLine, refusals, told};
+use hints::{Failure, Refusal, Rest, Said, ShownCommand, ToldLine, refusals, told};
 use std::alloc::{AllocError, Global};
 
 /// Why a script isn't vouched for over this start, and hints, each of which allows the file at hand, where there is one. Where `all` is true,
@@ -111,7 +111,7 @@ fn all_told(
 ) -> Result<Vec<ToldLine>, AllocError>
     requires allowed { IsAllowed start.now }
 {
-    let found = refusals(alloc, script, start, file)?;
+    let (found, rest) = refusals(alloc, script, start, file)?;
     let mut lines = Vec::new(alloc);
     let mut last: usize = 1;
     for refusal in found.as_slice() {
@@ -121,18 +121,20 @@ fn all_told(
         last = told.line;
         lines.push(told)?;
     }
-    let rest = String::from_str(alloc, rest_text(found.as_slice()))?;
-    lines.push(ToldLine::of_said(alloc, last, Said::Note(rest))?)?;
+    let text = String::from_str(alloc, rest_text(found.as_slice(), rest))?;
+    lines.push(ToldLine::of_said(alloc, last, Said::Note(text))?)?;
     Ok(lines)
 }
 
 /// What is to be said of the rest of a script after these refusals.
-fn rest_text(found: &[Refusal]) -> &'static str {
-    match found.last() {
-        Some(last) if last.hints.is_empty() => {
-            "what comes after this command isn't looked at, since no hint mends it"
+fn rest_text(found: &[Refusal], rest: Rest) -> &'static str {
+    let all_have_hints = found.iter().all(|refusal| !refusal.hints.is_empty());
+    match rest {
+        Rest::Unmended => "what comes after this command isn't looked at, since no hint mends it",
+        Rest::Cut => "there may be more, and ten are shown at most",
+        Rest::Vouched if all_have_hints => "with the first hint of each, the script is vouched for",
+        Rest::Vouched => {
+            "with the first hint of each, or without its command where there is none, the script is vouched for"
         }
-        _ if found.len() == MOST_REFUSALS => "there may be more, and ten are shown at most",
-        _ => "with the first hint of each, the script is vouched for",
     }
 }

@@ -1,9 +1,9 @@
 //! Which landmark a start doesn't have, and why. No clause speaks of these lines.
 
-use crate::placed::Missed;
 use crate::stderr::command_line::quoted;
 use crate::stderr::file_name::start_name;
 use ed_base::Bytes;
+use hints::Missed;
 use landmarks::{Landmark, Misfit, Which};
 use std::alloc::{AllocError, Global};
 

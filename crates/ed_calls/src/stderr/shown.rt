@@ -1,5 +1,6 @@
 //! As much of a script, a pattern or a name as a line shows, and as much of a line as is shown. What nobody can see is shown by its bytes.
 
+use hints::is_hidden;
 use std::alloc::{AllocError, Global};
 
 /// How many bytes of a script, a pattern or a name are shown at most.
@@ -75,33 +76,4 @@ fn push_shown(alloc: Global, line: &mut String, character: char) -> Result<(), A
     let escape = format!(in alloc; "{}", one.as_str().as_bytes().escape_ascii())?;
     line.push_str(escape.as_str())?;
     Ok(())
-}
-
-/// Whether nobody can see a character, or tell it from another, or whether it turns the order of those about it: a blank that isn't a space, a
-/// mark of direction, and what else formats a text. Control characters are seen to before.
-pub fn is_hidden(character: char) -> bool {
-    matches!(
-        character,
-        '\u{a0}'
-            | '\u{ad}'
-            | '\u{34f}'
-            | '\u{600}'..='\u{605}'
-            | '\u{61c}'
-            | '\u{6dd}'
-            | '\u{70f}'
-            | '\u{115f}'..='\u{1160}'
-            | '\u{1680}'
-            | '\u{17b4}'..='\u{17b5}'
-            | '\u{180b}'..='\u{180f}'
-            | '\u{2000}'..='\u{200f}'
-            | '\u{2028}'..='\u{202f}'
-            | '\u{205f}'..='\u{206f}'
-            | '\u{3000}'
-            | '\u{3164}'
-            | '\u{fe00}'..='\u{fe0f}'
-            | '\u{feff}'
-            | '\u{ffa0}'
-            | '\u{fff0}'..='\u{fffb}'
-            | '\u{e0000}'..='\u{e0fff}'
-    )
 }

@@ -1,7 +1,7 @@
 //! What is told of a script as lines: in the form for a person, and in the one in which tools read them, `NAME:LINE: ` and what is said.
 
-use crate::stderr::shown::{is_hidden, shown_lines};
-use hints::{Failure, Said, ShownCommand, ToldLine};
+use crate::stderr::shown::shown_lines;
+use hints::{Failure, Said, ShownCommand, ToldLine, is_hidden};
 use remarks::Remarked;
 use std::alloc::{AllocError, Global};
 

@@ -1,10 +1,6 @@
-use Rattle.std.proofs.Common.{drop}
-use Rattle.hints.proofs.Chains.{front-of}
+use Rattle.hints.specs.Refusals.{hinted}
 use Rattle.hints.proofs.refusing.Refusal.mended.Goals as goal
 
-pub returns-in_ok-copy_of-in-len1-up : goal.returns-in_ok-copy_of-in-len1-up
-returns-in_ok-copy_of-in-len1-up c =
-    let first = front-of c.as_slice.result.now c.hint-item.result c.in-len1-up.len_at_least c.hint-item.is in
-    record {
-      value = (c.hint-item.result, drop 1 c.args.self.now.hints.items, rw c.as_slice.ensures.value at first, c.in_ok-try_copy-in-len1-up.ensures.value, c.in_ok-copy_of-in-len1-up.ensures.value);
-    }
+pub returns-in-Some : goal.returns-in-Some
+returns-in-Some c =
+    let is = rw c.in-Some.is at c.in_ok-hinted.ensures.value in record { value = hinted is.0 is.1 is.2 is.3 is.4 }

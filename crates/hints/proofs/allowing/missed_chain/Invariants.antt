@@ -3,7 +3,7 @@ use Rattle.std.proofs.Common.{◌↔◌, drop}
 use Rattle.ed_base.specs.Lines.{lines_of}
 use Rattle.cert_check.specs.checker.Beginning.{landmarks_of}
 use Rattle.cert_check.specs.checker.Sound.{HaveLandmarks}
-use Rattle.ed_calls.proofs.placed.missed_over.Given as goal
+use Rattle.hints.proofs.allowing.missed_chain.Given as goal
 
 abbrev pub invariant-loop-chain : goal.invariant-loop-chain
 invariant-loop-chain l = HaveLandmarks (lines_of l.file) (landmarks_of l.chains) ↔ HaveLandmarks (lines_of l.file) (landmarks_of (drop l.chain-index l.chains))

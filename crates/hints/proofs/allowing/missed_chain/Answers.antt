@@ -9,8 +9,8 @@ use Rattle.landmarks.specs.Places.{AreAt}
 use Rattle.landmarks.specs.Misplaced.{IsMisplaced}
 use Rattle.cert_check.specs.checker.Beginning.{landmarks_of}
 use Rattle.cert_check.specs.checker.Sound.{HaveLandmarks}
-use Rattle.ed_calls.proofs.LandmarkedStarts.{no_chains, own_places, first_placed}
-use Rattle.ed_calls.proofs.placed.missed_over.Goals as goal
+use Rattle.hints.proofs.Placed.{no_chains, own_places, first_placed}
+use Rattle.hints.proofs.allowing.missed_chain.Goals as goal
 
 pub loop-chain-init : goal.loop-chain-init
 loop-chain-init c = (λ h. h, λ h. h)
