@@ -49,6 +49,21 @@ meets_refusal() {
   [ "$where" = "$number" ] && [ "$kind" != close ] && over=yes
 }
 
+# The next file is opened to be written, and one of its calls is refused. Where files are spared, one that can't be opened to be read too, or not
+# be read then, is written all the same.
+meets_refused_write() {
+  meets_refusal || return 1
+  [ "$spared" ] || return 0
+  case $kind in
+  open) number=$((number + 1)) ;;
+  read) ;;
+  *) return 0 ;;
+  esac
+  over=
+  unread=yes
+  return 1
+}
+
 # A certificate is read. Of one that can't be, nothing is said.
 takes() { # NAME
   meets_refusal
@@ -59,16 +74,27 @@ reads() { # NAME
 }
 
 writes() { # NAME TEXT
-  local name=${1%% *} text
+  local name=${1%% *} text is_new= meets=meets_refused_write
   printf -v text "${1#* }"
   size=$((size + ${#text}))
   local old=${has[$name]-}
   local end=${#old}
   syncs=$((syncs + 1))
   if [ "$end" -gt 0 ] && [ "$end" -lt ${#text} ]; then syncs=$((syncs + 1)); fi
-  if ! meets_refusal; then
+  [ "${has[$name]+there}" ] || is_new=yes
+  # Where there is no file, the first opening doesn't find one, and the second makes it.
+  if [ "$is_new" ]; then
+    if meets_refused_write; then
+      output+=$report
+      return
+    fi
+    meets=meets_refusal
+  fi
+  if ! $meets; then
     has[$name]=$text
     written[$name]=yes
+    # The folder is synced if that can be, and a new name of a file is there anyway.
+    if [ "$is_new" ]; then number=$((number + 1)) syncs=$((syncs + 1)); fi
   elif [ "$kind" != open ] && [ "$kind" != stat ]; then
     has[$name]=$(leaves && echo .)
     has[$name]=${has[$name]%.}
@@ -78,6 +104,16 @@ writes() { # NAME TEXT
     has[$name]=$old
   fi
   if [ "$over" ]; then output+=$report; fi
+}
+
+# A file is given the bytes that it has already.
+spares() { # NAME
+  unread=
+  if meets_refused_write; then
+    output+=$report
+  elif [ "$unread" ]; then
+    written[$1]=yes
+  fi
 }
 
 # What a file with the bytes `old` has when a write of `text` was refused.
@@ -116,6 +152,7 @@ foresee() { # KIND WHERE PLACE
   done
   status=$ends
   if [ "$over" ]; then status=3; fi
+  opens=$number
 }
 
 is_foreseen() {
@@ -161,16 +198,13 @@ each_is_refused() { # KIND BYTES
 }
 
 # Whether each call was really met: a file is opened once for each step on it, and synced once for each that writes it, or twice where it
-# becomes longer.
+# becomes longer. A new one is looked for first, and then made, and its folder is opened and synced.
 are_all_met() {
-  local step files=0 writes=0
+  local step writes=0
   for step in "${steps[@]}"; do
-    case $step in
-    writes\ *) files=$((files + 1)) writes=$((writes + 1)) ;;
-    reads\ * | takes\ *) files=$((files + 1)) ;;
-    esac
+    case $step in writes\ *) writes=$((writes + 1)) ;; esac
   done
-  [ "${met[open]} ${met[fsync]}" = "$files $syncs" ] && [ "${met[read]}" -gt 0 ] && [ "${met[write]}" -ge "$writes" ]
+  [ "${met[open]} ${met[fsync]}" = "$opens $syncs" ] && [ "${met[read]}" -gt 0 ] && [ "${met[write]}" -ge "$writes" ]
 }
 
 # Whole calls first, then by single bytes.
@@ -213,6 +247,7 @@ on() {
 kinds='open stat read write ftruncate fsync close'
 bytewise='read write'
 uncut=
+spared=
 on 'w of all lines' 0 '2d\nw\n,p\nq\n' 'edit F' \
   'reads F' 'says 6\n' 'writes F a\nc\n' 'says 4\na\nc\n'
 on 'w of fewer bytes' 0 '1,2c\nz\n.\nw\n1p\nq\n' 'edit -s F' \
@@ -253,6 +288,18 @@ on 'changes that are not written' 1 '1d\nq\n' 'edit F' \
   'reads F' 'says 6\n?\n'
 on 'a prompt' 0 '2d\nw\nq\n' 'edit -p > F' \
   'reads F' 'says 6\n>>' 'writes F a\nc\n' 'says 4\n>'
+
+# Files that have the bytes already are left alone.
+spared=yes
+on 'w of what the file has' 0 'w\n,p\nq\n' 'edit --unchanged F' \
+  'reads F' 'says 6\n' 'spares F' 'says 6\na\nb\nc\n'
+on 'w of as many other bytes' 0 '1s/a/x/\nw\n1p\nq\n' 'edit --unchanged -s F' \
+  'reads F' 'writes F x\nb\nc\n' 'says x\n'
+on 'w of more bytes, and again' 0 '$a\nmore\n.\nw\nw\n1p\nq\n' 'edit --unchanged -s F' \
+  'reads F' 'writes F a\nb\nc\nmore\n' 'spares F' 'says a\n'
+on 'w to a new file, and again' 0 '2,3w H\n2,3w H\nq\n' 'edit --unchanged -s F' \
+  'reads F' 'writes H b\nc\n' 'spares H'
+spared=
 
 # A new end that is refused and can't be cut off.
 export UNCUT=yes

@@ -27,6 +27,10 @@ class Edit(typing.NamedTuple):
 VOUCHED_FOR = ('--vouched', '-s', 'F')
 # Files are replaced whole, when the script has come to its end.
 REPLACED_WHOLE = ('--whole', '-s', 'F')
+# The same, and the old files are kept beside them.
+KEPT = ('--whole', '--backup', '~', '-s', 'F')
+# Files that have the bytes already are left alone.
+SPARED = ('--unchanged', '-s', 'F')
 EDITS = [
     Edit('a line is appended, and the file written', b'$a\nd\n.\nw\nq\n', ('F',)),
     Edit('an empty match after a full one', b's/a*/x/gp\nQ\n', files={'F': b'baaac\n'}),
@@ -62,6 +66,14 @@ EDITS = [
     Edit('replaced whole', b'1d\nw\nw H\nr F\nw H\n,p\nw\nq\n', REPLACED_WHOLE),
     Edit('replaced whole, but for what stays', b'1d\nw\nu\nw\n1d\nw H\nq\n', REPLACED_WHOLE),
     Edit('a fault after a write that is held back', b'1d\nw\n9p\n', REPLACED_WHOLE),
+    Edit('replaced whole, and kept', b'1d\nw\nw H\nw NEW\nr F\nw H\nq\n', KEPT, {'F': ABC, 'H': AB}),
+    Edit('kept in place of an older backup', b'1d\nw\n,p\nq\n', KEPT, {'F': ABC, 'F~': AB}),
+    Edit('a backup that is a file of the run', b'1d\nw\nw F~\nq\n', KEPT, {'F': ABC, 'F~': AB}),
+    Edit('nothing is kept after a fault', b'1d\nw\nw H\n9p\n', KEPT, {'F': ABC, 'H': AB}),
+    Edit('spared in place', b'w\n1d\nw\nw\nw NEW\nw NEW\n,p\nq\n', SPARED),
+    Edit('spared by another name, and read again', b'1s/a/x/\nu\nw\nr ./F\nw H\nw H\nq\n', SPARED, {'F': ABC, 'H': ABC + ABC}),
+    Edit('rehearsed, with what is kept', b'1d\nw\nw H\nu\nw\nq\n', ('-n', *KEPT), {'F': ABC, 'H': AB}),
+    Edit('rehearsed, with what is spared', b'1d\nw\nw NEW\nu\nw\nq\n', ('-n', *SPARED)),
     Edit('vouched for over files like another', b'/b/p\n2d\nw\nq\n', ('--vouched', '--like', 'G', '-s', 'F'), {'F': ABC, 'G': ABC}),
     Edit('vouched for over files that F is unlike', b'4d\nw\nq\n', ('--vouched', '--like', 'G', '-s', 'F'), {'F': ABC, 'G': ABC + b'd\n'}),
     Edit('not vouched for', b'1d\n/b/s/c/d/\nw\nq\n', VOUCHED_FOR),

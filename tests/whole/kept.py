@@ -96,9 +96,10 @@ def beside_others(tests):
                 path = os.path.join(folder, 'F.orig')
                 make(path)
                 before = os.lstat(path)
-                ran = run(tests, (*WHOLE, '--backup', '.orig', 'F'), b'1d\nw\nq\n', folder)
-                stays = os.lstat(path).st_ino == before.st_ino and read(os.path.join(folder, 'F')) == BEFORE['F']
-                tests.check(f'at its name: {why}', (ran.returncode, ran.stderr) == (3, refused(b'F', why)) and stays, f'{ran}')
+                for words in ((), ('-n',)):
+                    ran = run(tests, (*WHOLE, *words, '--backup', '.orig', 'F'), b'1d\nw\nq\n', folder)
+                    stays = os.lstat(path).st_ino == before.st_ino and read(os.path.join(folder, 'F')) == BEFORE['F']
+                    tests.check(f'at its name: {why} {words}', (ran.returncode, ran.stderr) == (3, refused(b'F', why)) and stays, f'{ran}')
 
 
 def by_a_certificate(tests):
@@ -125,6 +126,41 @@ SPARED = [
     ('--unchanged', 'F', b',d\nw\nq\n', {'F': b''}, 'F', False),
     ('-s', 'F', b'w\nq\n', {}, 'F', False),
 ]
+
+
+# Paths that couldn't be written after each other, by the words of the run: the script, and what a rehearsal tells of each write. The run itself is
+# refused the last one of them, in the same words.
+OTHER = b'another name of a file that was written'
+BACKED = ('--whole', '--backup', '.orig')
+LONG = b'n' * 251
+HINDERED = [
+    (('--whole',), b'1d\nw\nw F\nw ./F\nq\n', b'would write "F": 1 line, 2 bytes\n' * 2, refused(b'./F', OTHER)),
+    (('--whole',), b'1d\nw folder/../H\nw H\nq\n', b'would write "folder/../H": 1 line, 2 bytes\n', refused(b'H', OTHER)),
+    (('--whole',), b'1d\nw NEW\nw folder/../NEW\nq\n', b'would write "NEW": 1 line, 2 bytes\n', refused(b'folder/../NEW', OTHER)),
+    (BACKED, b'1d\nw\nw F.orig\nq\n', b'would write "F": 1 line, 2 bytes\n', refused(b'F.orig', OTHER)),
+    (BACKED, b'1d\nw F.orig\nw\nq\n', b'would write "F.orig": 1 line, 2 bytes\n', refused(b'F', b'its backup is a file that was written')),
+    (BACKED, b'1d\nw H\nw ' + LONG + b'\nq\n', b'would write "H": 1 line, 2 bytes\n', refused(LONG[:100] + b'..', b'File name too long')),
+    (BACKED, b'1d\nw link\nq\n', b'', refused(b'link', b'not a plain file')),
+    (('--whole',), b'1d\nw H/\nq\n', b'', refused(b'H/', b'not a plain file')),
+]
+
+
+def hindered(tests):
+    """A rehearsal tells of each write whether it could be made after those before it, as the run itself does."""
+    for words, script, says, wrong in HINDERED:
+        for rehearsed in (('-n',), ()):
+            with fresh() as folder:
+                ran = run(tests, ('edit', *words, *rehearsed, '-s', 'F'), script, folder)
+                is_right = (ran.returncode, ran.stderr) == (3, says + wrong if rehearsed else wrong) and files_in(folder) == BEFORE
+                tests.check(f'{rehearsed or "run"}, {words}: {script}', is_right, f'{ran}, {files_in(folder)}')
+    # In place two names of a file are written one after the other, and a backup of before counts as the file itself.
+    with fresh() as folder:
+        ran = run(tests, (*IN_PLACE, '-n', 'F'), b'1d\nw\nw ./F\nq\n', folder)
+        says = b'would write "F": 1 line, 2 bytes\nwould write "./F": 1 line, 2 bytes\n'
+        tests.check('two names in place', (ran.returncode, ran.stderr) == (0, says), f'{ran}')
+        os.link(os.path.join(folder, 'F'), os.path.join(folder, 'F.orig'))
+        ran = run(tests, ('edit', '-n', *BACKED, '-s', 'F'), b'1d\nw\nq\n', folder)
+        tests.check('a backup that is the file', (ran.returncode, ran.stderr) == (0, says[:33]), f'{ran}')
 
 
 def unchanged(tests):
@@ -167,4 +203,4 @@ def rehearsals(tests):
             tests.check(f'rehearsed, {words}: {script}', is_right, f'{ran}')
 
 
-PARTS = {'backups': backups, 'unchanged': unchanged}
+PARTS = {'backups': backups, 'unchanged': unchanged, 'hindered': hindered}

@@ -21,7 +21,7 @@ edit silent prompt path = Some (job.Edit (record { silent = silent; prompt = pro
 
 -- its rehearsal
 abbrev rehearsal : Bool → Option (List ℕ) → Option (List ℕ) → Option Job
-rehearsal silent prompt path = Some (job.Edit (record { silent = silent; prompt = prompt; path = path }) None (writing.Never false false) None)
+rehearsal silent prompt path = Some (job.Edit (record { silent = silent; prompt = prompt; path = path }) None (writing.Never false false None) None)
 
 -- a run on F whose writes are made so
 abbrev edit_so : Writing → Option Job
@@ -114,7 +114,7 @@ run_so writes = Some (job.Run (codes "C") (record { silent = false; prompt = Non
 
 -- its rehearsal
 abbrev rehearsed_run : List ℕ → Bool → Option (List ℕ) → Option Job
-rehearsed_run certificate silent path = Some (job.Run certificate (record { silent = silent; prompt = None; path = path }) None (writing.Never false false))
+rehearsed_run certificate silent path = Some (job.Run certificate (record { silent = silent; prompt = None; path = path }) None (writing.Never false false None))
 
 -- what each does with a file F and the script in a file S
 abbrev edit_from_file : (silent vouched : Bool) → Option Job
@@ -298,14 +298,14 @@ words =
     ∷ row (job_given (codes "check" ∷ codes "-q" ∷ codes "C" ∷ []) ≡ None) refl  -- a quiet check
     ∷ row (job_given (codes "edit" ∷ codes "--whole" ∷ codes "F" ∷ []) ≡ edit_whole false) refl  -- replaced whole
     ∷ row (job_given (codes "edit" ∷ codes "F" ∷ codes "--vouched" ∷ codes "--whole" ∷ []) ≡ edit_whole true) refl  -- vouched for, and replaced whole
-    ∷ row (job_given (codes "edit" ∷ codes "--whole" ∷ codes "-n" ∷ codes "F" ∷ []) ≡ edit_so (writing.Never true false)) refl  -- replaced whole, rehearsed
+    ∷ row (job_given (codes "edit" ∷ codes "--whole" ∷ codes "-n" ∷ codes "F" ∷ []) ≡ edit_so (writing.Never true false None)) refl  -- replaced whole, rehearsed
     ∷ row (job_given (codes "run" ∷ codes "--whole" ∷ codes "C" ∷ codes "F" ∷ []) ≡ run_so (writing.AtTheEnd None)) refl  -- run, and replaced whole
     ∷ row (job_given (codes "edit" ∷ codes "--whole" ∷ codes "--whole" ∷ codes "F" ∷ []) ≡ None) refl  -- whole twice
     ∷ row (job_given (codes "vouch" ∷ codes "--whole" ∷ codes "F" ∷ []) ≡ None) refl  -- vouched whole
     ∷ row (job_given (codes "fits" ∷ codes "--whole" ∷ codes "C" ∷ []) ≡ None) refl  -- fits whole
     ∷ row (job_given (codes "edit" ∷ codes "--whole" ∷ codes "--backup" ∷ codes ".orig" ∷ codes "F" ∷ []) ≡ edit_so (writing.AtTheEnd (Some (codes ".orig")))) refl  -- replaced whole, and kept
     ∷ row (job_given (codes "edit" ∷ codes "--backup=-old" ∷ codes "F" ∷ codes "--whole" ∷ []) ≡ edit_so (writing.AtTheEnd (Some (codes "-old")))) refl  -- kept under a name that ends like an option
-    ∷ row (job_given (codes "edit" ∷ codes "--backup" ∷ codes "~" ∷ codes "--whole" ∷ codes "-n" ∷ codes "F" ∷ []) ≡ edit_so (writing.Never true false)) refl  -- kept, rehearsed
+    ∷ row (job_given (codes "edit" ∷ codes "--backup" ∷ codes "~" ∷ codes "--whole" ∷ codes "-n" ∷ codes "F" ∷ []) ≡ edit_so (writing.Never true false (Some (codes "~")))) refl  -- kept, rehearsed
     ∷ row (job_given (codes "run" ∷ codes "--whole" ∷ codes "--backup" ∷ codes "~" ∷ codes "C" ∷ codes "F" ∷ []) ≡ run_so (writing.AtTheEnd (Some (codes "~")))) refl  -- run, and kept
     ∷ row (job_given (codes "edit" ∷ codes "--backup" ∷ codes ".orig" ∷ codes "F" ∷ []) ≡ None) refl  -- kept, and not replaced whole
     ∷ row (job_given (codes "edit" ∷ codes "-n" ∷ codes "--backup" ∷ codes ".orig" ∷ codes "F" ∷ []) ≡ None) refl  -- kept, rehearsed, and not replaced whole
@@ -318,7 +318,7 @@ words =
     ∷ row (job_given (codes "vouch" ∷ codes "--backup" ∷ codes ".orig" ∷ codes "F" ∷ []) ≡ None) refl  -- vouched and kept
     ∷ row (job_given (codes "edit" ∷ codes "--unchanged" ∷ codes "F" ∷ []) ≡ edit_so (writing.AtOnce true)) refl  -- spared
     ∷ row (job_given (codes "edit" ∷ codes "--unchanged" ∷ codes "--whole" ∷ codes "F" ∷ []) ≡ edit_so (writing.AtTheEnd None)) refl  -- spared, as whole files are
-    ∷ row (job_given (codes "edit" ∷ codes "-n" ∷ codes "F" ∷ codes "--unchanged" ∷ []) ≡ edit_so (writing.Never false true)) refl  -- spared, rehearsed
+    ∷ row (job_given (codes "edit" ∷ codes "-n" ∷ codes "F" ∷ codes "--unchanged" ∷ []) ≡ edit_so (writing.Never false true None)) refl  -- spared, rehearsed
     ∷ row (job_given (codes "run" ∷ codes "C" ∷ codes "--unchanged" ∷ codes "F" ∷ []) ≡ None) refl  -- run, and spared
     ∷ row (job_given (codes "edit" ∷ codes "--unchanged" ∷ codes "--unchanged" ∷ codes "F" ∷ []) ≡ None) refl  -- spared twice
     ∷ row (job_given (codes "check" ∷ codes "--unchanged" ∷ codes "C" ∷ []) ≡ None) refl  -- checked and spared

@@ -124,7 +124,7 @@ pub record EndsRehearsed (log : Log) (ran status : ℕ) : Type 0 where
 abbrev pub AreMade : Writing → Log → (ran status : ℕ) → Type 0
 AreMade (writing.AtOnce spares) log ran status = status ≡ ran
 AreMade (writing.AtTheEnd suffix) log ran status = HeldBack log ran status
-AreMade (writing.Never whole spares) log ran status = EndsRehearsed log ran status
+AreMade (writing.Never whole spares suffix) log ran status = EndsRehearsed log ran status
 
 -- a run came to this with what it met, and its writes were made so
 abbrev pub Writes : Writing → (Met → ℕ → Type 0) → Met → ℕ → Type 0

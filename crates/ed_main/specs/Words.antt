@@ -61,7 +61,7 @@ options_in rows = record {
 -- When the writes of a run are to be made: never where it is to be rehearsed, else at its end where files are to be replaced whole. There the old
 -- ones may be kept, under names with a suffix. Written at once, files that have the bytes already may be spared.
 abbrev pub writing_of : (rehearsed whole spares : Bool) → (suffix : Option (List ℕ)) → Writing
-writing_of true whole spares suffix = writing.Never whole spares
+writing_of true whole spares suffix = writing.Never whole spares suffix
 writing_of false true spares suffix = writing.AtTheEnd suffix
 writing_of false false spares suffix = writing.AtOnce spares
 

@@ -4,22 +4,29 @@ ghost use Rattle.std.specs.Prelude.{◌≢◌, [], IsTrue};
 ghost use Rattle.ed_session.specs.MemFiles.{log_of};
 ghost use Rattle.rehearsal.specs.Held.{writes_of};
 
+use crate::suffix::Suffix;
 use ed_base::Bytes;
 use ed_calls::{show_held, show_unwritten};
-use ed_session::{DiskFiles, Outside};
+use ed_session::{DiskFiles, Outside, folder_of};
 use ed_syntax::Answer;
 use rehearsal::{HeldWrite, Rehearsal};
-use std::alloc::AllocError;
+use std::alloc::{AllocError, Global};
 use std::fs::{File, OpenOptions, TryLockError};
 use std::io::ErrorKind;
 use std::path::Path;
 use std::rt::Files;
 use std::{fs, io};
-use whole::look;
+use whole::Lookahead;
 
 /// Shows the writes of a rehearsal, as they would have been made, or why they couldn't be, and says whether one couldn't be: in place, or where
-/// files are to be replaced whole. What would be left as it is, since it has the bytes already, is told where files are spared.
-pub fn show_writes<R, O>(rt: &R, rehearsal: &mut Rehearsal<O>, whole: bool, spares: bool) -> bool
+/// files are to be replaced whole, by a look ahead at their paths. What would be left as it is, since it has the bytes already, is told where files
+/// are spared.
+pub fn show_writes<R, O>(
+    rt: &R,
+    rehearsal: &mut Rehearsal<O>,
+    ahead: Option<Lookahead>,
+    spares: bool,
+) -> bool
 where
     R: Files<File = File> + Eprint + AllocGlobal,
     O: Outside + Drop,
@@ -27,33 +34,42 @@ where
 {
     let is_one = !rehearsal.writes().is_empty();
     let mut stay = Vec::new(rt.alloc());
-    if whole || spares {
+    if ahead.is_some() || spares {
         // Of those for which there is no memory it isn't told.
         let _ = look_which_stay(rt, rehearsal, &mut stay);
     }
-    let is_hindered = show_each(rt, rehearsal.writes(), stay.as_slice(), whole);
+    let is_hindered = show_each(rt, rehearsal.writes(), stay.as_slice(), ahead);
     is_one && is_hindered
 }
 
+/// A look ahead at the files of a run, where they are to be replaced whole, and kept under their names with this suffix if there is one.
+pub fn look_ahead(alloc: Global, whole: bool, suffix: Option<Suffix>) -> Option<Lookahead> {
+    match suffix {
+        Some(suffix) if whole => Some(Lookahead::new(alloc, Some(suffix.into_text()))),
+        None if whole => Some(Lookahead::new(alloc, None)),
+        _ => None,
+    }
+}
+
 /// Shows each of these writes, and says whether one couldn't be made. Of those from the first on it was seen whether the file would stay as it is.
-fn show_each<R>(rt: &R, writes: &[HeldWrite], stay: &[bool], whole: bool) -> bool
+fn show_each<R>(rt: &R, writes: &[HeldWrite], stay: &[bool], mut ahead: Option<Lookahead>) -> bool
 where
     R: Files<File = File> + Eprint + AllocGlobal,
 {
     let mut found = false;
     for (place, write) in writes.iter().enumerate() {
         let path = write.path.as_slice();
-        let hindrance = if whole {
-            look(rt.alloc(), rt, path).err()
-        } else {
-            hindrance(rt, path)
+        let hindrance = match &mut ahead {
+            Some(ahead) => ahead.look(rt, path).err(),
+            None => hindrance(rt, path),
         };
         match hindrance {
-            Some(reason) => {
+            // That there was no memory to look tells nothing of the file.
+            Some(reason) if reason.kind() != ErrorKind::OutOfMemory => {
                 show_unwritten(rt.alloc(), rt, path, Some(reason));
                 found = true;
             }
-            None => {
+            _ => {
                 let stays = stay.get(place).copied().unwrap_or(false);
                 show_held(rt.alloc(), rt, write, stays);
             }
@@ -153,11 +169,7 @@ fn lock_of(file: &File) -> Option<io::Error> {
 
 /// Why there is no folder for a new file at a path.
 fn no_folder<R: Files<File = File>>(rt: &R, path: &str) -> Option<io::Error> {
-    let folder = Path::new(path).parent()?;
-    if folder.as_str().is_empty() {
-        return None;
-    }
-    match fs::metadata(rt, folder) {
+    match fs::metadata(rt, folder_of(Path::new(path)).as_str()) {
         Ok(found) if found.is_dir() => None,
         Ok(_) => Some(io::Error::new(ErrorKind::NotADirectory, "not a folder")),
         Err(error) => Some(error),

@@ -4,8 +4,9 @@ ghost use Rattle.ed_session.specs.Drives.{added};
 ghost use Rattle.ed_session.specs.Sinks.{change};
 ghost use Rattle.ed_main.specs.Program.{Comes, ComesBy, IsTrusted, Ran, Somehow, status_ahead};
 
-use crate::hindered::show_writes;
+use crate::hindered::{look_ahead, show_writes};
 use crate::stderr::notes::show_if_missing;
+use crate::suffix::Suffix;
 use crate::whole_files::replace_whole;
 use crate::writing::Writing;
 use ed_base::{Bytes, Fault};
@@ -111,18 +112,22 @@ where
             do_over(rt, task, &mut files)
         }
         Writing::AtTheEnd { suffix } => replace_whole(rt, task, suffix),
-        Writing::Never { whole, spares } => rehearse(rt, task, whole, spares),
+        Writing::Never {
+            whole,
+            spares,
+            suffix,
+        } => rehearse(rt, task, whole, spares, suffix),
     }
 }
 
 /// Does a task over the system's files, of which none is written, and shows what would have been, and which of them couldn't be: replaced whole
-/// or written in place.
-fn rehearse<R>(rt: &R, task: Task<'_>, whole: bool, spares: bool) -> u8
+/// and kept under their names with this suffix if there is one, or written in place.
+fn rehearse<R>(rt: &R, task: Task<'_>, whole: bool, spares: bool, suffix: Option<Suffix>) -> u8
 where
     R: Files<File = File> + Print + Eprint + AllocGlobal,
     requires trusted { IsTrusted task.trust }
     ensures status { result ≤ 5 }
-    ensures came { Somehow (Comes (Writing.Never whole spares) task.entry) result }
+    ensures came { Somehow (Comes (Writing.Never whole spares suffix) task.entry) result }
 {
     let rehearsal = Rehearsal::new(rt.alloc(), DiskFiles::new(rt.alloc(), rt));
     let mut files = Watched::new(rt.alloc(), rehearsal, task.options.path.is_some());
@@ -131,7 +136,8 @@ where
     rehearsal.real_files_are_only_read();
     rehearsal.writes_are_done();
     rehearsal.reads_show_what_was_written();
-    let is_hindered = show_writes(rt, &mut rehearsal, whole, spares);
+    let ahead = look_ahead(rt.alloc(), whole, suffix);
+    let is_hindered = show_writes(rt, &mut rehearsal, ahead, spares);
     status_ahead(status, is_hindered)
 }
 

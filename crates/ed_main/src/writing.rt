@@ -8,12 +8,21 @@ use crate::suffix::Suffix;
 #[derive(Debug, Drop)]
 pub enum Writing {
     /// Each when it is asked for.
-    AtOnce { spares: bool },
+    AtOnce {
+        spares: bool,
+    },
     /// When the run has ended, each path once: files are replaced whole, and spared. Where there is a suffix, the old ones are kept under
     /// their names with it.
-    AtTheEnd { suffix: Option<Suffix> },
-    /// Never: the run is rehearsed, by what files allow that are to be replaced whole, or written in place.
-    Never { whole: bool, spares: bool },
+    AtTheEnd {
+        suffix: Option<Suffix>,
+    },
+    /// Never: the run is rehearsed, by what files allow that are to be replaced whole, and kept under their names with this suffix if there
+    /// is one, or that are to be written in place.
+    Never {
+        whole: bool,
+        spares: bool,
+        suffix: Option<Suffix>,
+    },
 }
 
 impl Writing {
@@ -23,7 +32,11 @@ impl Writing {
         ensures value { result ≡ writing_of rehearsed whole spares suffix }
     {
         match (rehearsed, whole) {
-            (true, _) => Writing::Never { whole, spares },
+            (true, _) => Writing::Never {
+                whole,
+                spares,
+                suffix,
+            },
             (false, true) => Writing::AtTheEnd { suffix },
             (false, false) => Writing::AtOnce { spares },
         }

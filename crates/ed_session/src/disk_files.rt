@@ -25,7 +25,7 @@ use std::snapshot::Snapshot;
 /// A file that isn't there is missing. One that can't be read or written is refused, and so is a path that isn't UTF-8 or
 /// holds a zero byte. A write gives the file that is there other bytes and leaves its owner, mode and links. A file that others have changed
 /// since this read it first, as far as its size, its time and the numbers of its device and of itself tell, isn't written, nor is one that
-/// another process has locked; while it's written, it is locked.
+/// another process has locked; while it's written, it is locked. Of a file that is made the folder is synced too, if the system lets it be.
 ///
 /// Where a file becomes longer, what lies beyond its old end is written and synced first. If that is refused, as on a full disk, it is cut
 /// off again and the file has its old bytes; if the cut is refused too, a part of the new end stays after them, and the first refusal is the
@@ -233,7 +233,7 @@ fn write_answer<R: Files<File = File>>(
     };
     let room = Vec::with_capacity(alloc, bytes.len().min(ROOM))?;
     match open_to_write(files, text, found.spares()) {
-        Ok(file) => match give_bytes(file, path, bytes, room, found) {
+        Ok(opened) => match give_bytes(files, opened, text, bytes, room, found) {
             Ok(()) => Ok(Answer::Done),
             Err(error) => {
                 *reason = Some(error);

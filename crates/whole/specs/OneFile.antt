@@ -1,12 +1,17 @@
--- Which files drafts are of (our choice: a file is told by the numbers of its device and of itself; one that isn't there by those of its
+-- Which files drafts are of, or are to be of (our choice: a file is told by the numbers of its device and of itself; one that isn't there by those of its
 -- folder and by its name in it).
 use Rattle.std.specs.Prelude.{◌≢◌, List, [], ◌∷◌, All, map}
 use Rattle.whole.specs.declared.file_identity.FileIdentity.{FileIdentity}
 use Rattle.whole.specs.declared.beside.Beside.{Beside}
+use Rattle.whole.specs.declared.planned.Planned.{Planned}
 
 -- the files that drafts are of, as the system told of them when the drafts were made
 abbrev pub files_of : List Beside → List FileIdentity
 files_of drafts = map (λ draft. draft.file) drafts
+
+-- the files that are to be replaced at these paths, as the system told of them when they were looked at
+abbrev pub planned_files : List Planned → List FileIdentity
+planned_files planned = map (λ one. one.file) planned
 
 -- no two of these are one file
 abbrev pub AreDifferent : List FileIdentity → Type 0

@@ -1,7 +1,7 @@
 //! The backup of a file that is to be replaced: a name under which the old file stays.
 use crate::draft_names::name_beside;
 use crate::file_identity::FileIdentity;
-use crate::plain_files::{file_to_replace, is_at, last_name, plain_file, refusal};
+use crate::plain_files::{file_to_replace, is_at, plain_file, refusal};
 use std::alloc::Global;
 use std::path::PathBuf;
 use std::rt::Files;
@@ -17,12 +17,19 @@ pub(crate) struct Backup {
     pub(crate) file: FileIdentity,
 }
 
+/// Whether a file is a backup that is to be made, or would be.
+pub(crate) fn is_backup(backup: &Option<Backup>, file: &FileIdentity) -> bool {
+    match backup {
+        Some(backup) => backup.file.is(file),
+        None => false,
+    }
+}
+
 /// The name of the backup of a path.
 pub(crate) fn backup_name(alloc: Global, path: &str, suffix: &str) -> io::Result<String> {
     if suffix.is_empty() || suffix.contains('/') {
         return Err(refusal("no suffix for a backup"));
     }
-    last_name(path)?;
     Ok(format!(in alloc; "{path}{suffix}")?)
 }
 

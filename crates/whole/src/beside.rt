@@ -2,12 +2,13 @@
 //! at its name is looked at before it is renamed or removed, and not touched before that.
 ghost use Rattle.std.specs.Prelude.{◌≡◌, ◌≢◌, IfOk, IsFalse};
 
-use crate::backup::Backup;
+use crate::backup::{Backup, is_backup};
 use crate::draft_names::make_draft;
 use crate::file_identity::FileIdentity;
 use crate::from_front::{FromFront, are_same};
 use crate::plain_files::{hold, is_at, is_other_at, plain_file, refusal};
 use crate::planned::Planned;
+use crate::taken::Takes;
 use ed_base::{Bytes, Pieces};
 use ed_session::FileStamp;
 use std::alloc::Global;
@@ -230,16 +231,16 @@ impl Beside {
             let _ = fs::remove_file(files, self.name.as_str());
         }
     }
+}
+
+impl Takes for Beside {
+    ghost target = { λ draft. draft.file };
 
     /// Whether this file is the draft, or the one that it is of, or would be its backup.
-    pub(crate) fn takes(&self, file: &FileIdentity) -> bool
+    fn takes(&self, file: &FileIdentity) -> bool
         ensures other { IsFalse result → self.now.file ≢ file.now }
     {
-        let is_backup = match &self.backup {
-            Some(backup) => backup.file.is(file),
-            None => false,
-        };
-        self.file.is(file) || self.draft.is(file) || is_backup
+        self.file.is(file) || self.draft.is(file) || is_backup(&self.backup, file)
     }
 }
 

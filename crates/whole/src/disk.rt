@@ -6,12 +6,13 @@ ghost use Rattle.whole.specs.OneFile.{AreDifferent, files_of};
 ghost use Rattle.whole.specs.Insides.{AreDifferent-prop};
 
 use crate::beside::Beside;
-use crate::file_identity::folder_of;
-use crate::made_drafts::{find, has_draft, is_drafted};
-use crate::plain_files::{refusal, sync_folder};
+use crate::draft_names::free_number;
+use crate::made_drafts::{find, is_drafted};
+use crate::plain_files::refusal;
 use crate::planned::Planned;
+use crate::taken::{other_name, refuse_taken};
 use ed_base::Pieces;
-use ed_session::{DiskFiles, FileStamp, Outside};
+use ed_session::{DiskFiles, FileStamp, Outside, folder_of, sync_folder};
 use ed_syntax::Answer;
 use std::alloc::{AllocError, Global};
 use std::fs::File;
@@ -238,11 +239,6 @@ fn no_draft() -> io::Error {
     refusal("no draft beside it")
 }
 
-/// Why a file can't be read or written by this name.
-fn other_name() -> io::Error {
-    refusal("another name of a file that was written")
-}
-
 /// Makes an empty draft of a path, unless the file there has a draft by another name or isn't as it was read, or has a draft's backup.
 fn draft_of<R: Files<File = File>>(
     alloc: Global,
@@ -257,15 +253,9 @@ fn draft_of<R: Files<File = File>>(
     let Ok(path) = str::from_utf8(path) else {
         return Err(refusal("a name that isn't UTF-8"));
     };
-    let path = String::from_str(alloc, path)?;
-    let planned = Planned::of(alloc, system, path, suffix)?;
-    if has_draft(drafts, &planned.file) {
-        return Err(other_name());
-    }
-    if let Some(backup) = &planned.backup {
-        if has_draft(drafts, &backup.file) {
-            return Err(refusal("its backup is a file that was written"));
-        }
-    }
+    // The drafts of runs that are over are removed first: one may be a second name of the file.
+    let number = free_number(alloc, system, path)?;
+    let planned = Planned::of(alloc, system, path, number, suffix)?;
+    refuse_taken(drafts, &planned)?;
     Beside::make(alloc, system, planned, read)
 }

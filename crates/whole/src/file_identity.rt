@@ -2,6 +2,7 @@
 ghost use Rattle.std.specs.Prelude.{◌≡◌, ◌↔◌, IsTrue};
 
 use ed_base::Bytes;
+use ed_session::folder_of;
 use std::alloc::Global;
 use std::fs::Metadata;
 use std::os::unix::fs::MetadataExt;
@@ -58,13 +59,5 @@ impl FileIdentity {
             _ => false,
         };
         self.device == other.device && self.number == other.number && same_name
-    }
-}
-
-/// The folder in which a path is looked for.
-pub(crate) fn folder_of(path: Path<'_>) -> Path<'_> {
-    match path.parent() {
-        Some(folder) if !folder.as_str().is_empty() => folder,
-        _ => Path::new("."),
     }
 }

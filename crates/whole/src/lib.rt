@@ -18,12 +18,13 @@ mod outcome;
 mod plain_files;
 mod planned;
 mod seen_deed;
+mod taken;
 mod whole;
 mod written;
 
 pub use disk_drafts::DiskDrafts;
 pub use drafting::Drafting;
-pub use looking::look;
+pub use looking::Lookahead;
 pub use mem_drafts::{MemDrafts, Stage};
 pub use outcome::{Finished, Outcome};
 pub use whole::Whole;

@@ -1,9 +1,8 @@
 //! The drafts that a run has made, found by a path or by a file.
-ghost use Rattle.std.specs.Prelude.{◌≢◌, All, IsFalse};
 
 use crate::beside::Beside;
-use crate::file_identity::FileIdentity;
 use crate::plain_files::file_to_read;
+use crate::taken::is_taken;
 use std::alloc::Global;
 use std::io;
 use std::io::ErrorKind;
@@ -24,23 +23,11 @@ pub(crate) fn is_drafted<R: Files>(
         return Ok(false);
     };
     match file_to_read(alloc, system, path) {
-        Ok(Some(file)) => Ok(has_draft(drafts, &file)),
+        Ok(Some(file)) => Ok(is_taken(drafts, &file)),
         Ok(None) => Ok(drafts.iter().any(|draft| !draft.file.is_there())),
         Err(error) if error.kind() == ErrorKind::NotFound => Ok(false),
         Err(error) => Err(error),
     }
-}
-
-/// Whether a file has a draft, or is one.
-pub(crate) fn has_draft(drafts: &[Beside], file: &FileIdentity) -> bool
-    ensures other { IsFalse result → All (λ draft. draft.file ≢ file.now) drafts.now }
-{
-    'drafts: for draft in drafts {
-        if draft.takes(file) {
-            return true;
-        }
-    }
-    false
 }
 
 /// The draft of a path, if one was made.

@@ -107,10 +107,3 @@ pub(crate) fn hold<R: Files<File = File>>(files: &R, path: &str) -> io::Result<F
     }
     Ok(file)
 }
-
-/// Syncs a folder, so that what was put there stays. Where it can't be opened or synced, it isn't.
-pub(crate) fn sync_folder<R: Files<File = File>>(files: &R, folder: Path<'_>) {
-    if let Ok(folder) = File::open(files, folder.as_str()) {
-        let _ = folder.sync_all();
-    }
-}

@@ -1,15 +1,17 @@
-//! A path for which a draft is to be made.
-use crate::backup::{Backup, backup_name};
-use crate::draft_names::free_number;
+//! A path that is to be replaced.
+ghost use Rattle.std.specs.Prelude.{◌≢◌, IsFalse};
+
+use crate::backup::{Backup, backup_name, is_backup};
 use crate::file_identity::FileIdentity;
-use crate::plain_files::{file_to_replace, plain_file};
+use crate::plain_files::{file_to_replace, last_name, plain_file};
+use crate::taken::Takes;
 use ed_session::FileStamp;
 use std::alloc::Global;
-use std::fs::{File, Metadata};
+use std::fs::Metadata;
 use std::io;
 use std::rt::Files;
 
-/// A path for which a draft is to be made.
+/// A path that is to be replaced.
 #[derive(Drop)]
 pub(crate) struct Planned {
     pub(crate) path: String,
@@ -22,29 +24,30 @@ pub(crate) struct Planned {
 }
 
 impl Planned {
-    /// A path at which there is a plain file, or nothing. The drafts of runs that are over are removed beside it.
-    pub(crate) fn of<R: Files<File = File>>(
+    /// A path at which there is a plain file, or nothing, with the number of its draft. Nothing is made or changed.
+    pub(crate) fn of<R: Files>(
         alloc: Global,
         files: &R,
-        path: String,
+        path: &str,
+        number: u32,
         suffix: Option<&str>,
     ) -> io::Result<Planned> {
-        let number = free_number(alloc, files, path.as_str())?;
+        last_name(path)?;
         let backup = match suffix {
-            Some(suffix) => Some(backup_name(alloc, path.as_str(), suffix)?),
+            Some(suffix) => Some(backup_name(alloc, path, suffix)?),
             None => None,
         };
-        let found = plain_file(files, path.as_str(), backup.as_deref())?;
-        let file = file_to_replace(alloc, files, path.as_str(), found.as_ref())?;
+        let found = plain_file(files, path, backup.as_deref())?;
+        let file = file_to_replace(alloc, files, path, found.as_ref())?;
         let backup = match backup {
             Some(name) => {
                 let number = number.saturating_add(1);
-                Some(Backup::of(alloc, files, path.as_str(), name, number)?)
+                Some(Backup::of(alloc, files, path, name, number)?)
             }
             None => None,
         };
         Ok(Planned {
-            path,
+            path: String::from_str(alloc, path)?,
             file,
             found,
             number,
@@ -60,5 +63,15 @@ impl Planned {
             (Some(Some(read)), Some(now)) => read.is_still(&now),
             _ => false,
         }
+    }
+}
+
+impl Takes for Planned {
+    ghost target = { λ planned. planned.file };
+
+    fn takes(&self, file: &FileIdentity) -> bool
+        ensures other { IsFalse result → self.now.file ≢ file.now }
+    {
+        self.file.is(file) || is_backup(&self.backup, file)
     }
 }

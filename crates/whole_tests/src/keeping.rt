@@ -4,7 +4,7 @@ use crate::disk::{draft_of, ends, free_path, is_there, written};
 use ed_syntax::Answer;
 use std::fs;
 use std::os::unix::fs::{MetadataExt, symlink};
-use whole::{DiskDrafts, Outcome, Whole, look};
+use whole::{DiskDrafts, Lookahead, Outcome, Whole};
 
 #[test]
 fn a_look_tells_what_is_refused(rt: HostRuntime) {
@@ -14,10 +14,13 @@ fn a_look_tells_what_is_refused(rt: HostRuntime) {
     let draft = draft_of(&rt, alloc, "whole_tests_looked");
     symlink(&rt, path.as_str(), link.as_str()).expect(&rt, "a link");
     let name = path.as_str().as_bytes();
-    same(&rt, look(alloc, &rt, name).is_ok(), true, "a new file");
+    let mut ahead = Lookahead::new(alloc, None);
+    same(&rt, ahead.look(&rt, name).is_ok(), true, "a new file");
     same(&rt, is_there(&rt, &path), false, "no file");
     fs::write(&rt, path.as_str(), "old\n").expect(&rt, "written");
-    same(&rt, look(alloc, &rt, name).is_ok(), true, "a file");
+    same(&rt, ahead.look(&rt, name).is_ok(), true, "once more");
+    let mut ahead = Lookahead::new(alloc, None);
+    same(&rt, ahead.look(&rt, name).is_ok(), true, "a file");
     same(&rt, is_there(&rt, &draft), false, "no draft");
     for other in [
         link.as_str(),
@@ -25,12 +28,42 @@ fn a_look_tells_what_is_refused(rt: HostRuntime) {
         "whole_tests_none/file",
         "whole_tests_none/",
     ] {
-        let found = look(alloc, &rt, other.as_bytes());
+        let found = ahead.look(&rt, other.as_bytes());
         same(&rt, found.is_ok(), false, other);
     }
     for each in [&path, &link] {
         fs::remove_file(&rt, each.as_str()).expect(&rt, "removed");
     }
+}
+
+#[test]
+fn a_look_ahead_tells_of_other_names_and_of_backups(rt: HostRuntime) {
+    let alloc = rt.alloc();
+    let path = free_path(&rt, alloc, "whole_tests_ahead");
+    let other = free_path(&rt, alloc, "./whole_tests_ahead");
+    let backup = free_path(&rt, alloc, "whole_tests_ahead.orig");
+    let second = free_path(&rt, alloc, "whole_tests_ahead_second");
+    let kept = free_path(&rt, alloc, "whole_tests_ahead_second.orig");
+    fs::create_dir(&rt, kept.as_str()).expect(&rt, "a folder");
+    // First there is no file, and then one.
+    for text in ["", "old\n"] {
+        let suffix = String::from_str(alloc, ".orig").expect(&rt, "memory");
+        let mut ahead = Lookahead::new(alloc, Some(suffix));
+        for (path, is_free) in [
+            (&path, true),
+            (&other, false),
+            (&backup, false),
+            (&second, false),
+            (&path, true),
+        ] {
+            let found = ahead.look(&rt, path.as_str().as_bytes());
+            same(&rt, found.is_ok(), is_free, path.as_str());
+        }
+        same(&rt, is_there(&rt, &path), !text.is_empty(), "the file");
+        fs::write(&rt, path.as_str(), "old\n").expect(&rt, "written");
+    }
+    fs::remove_file(&rt, path.as_str()).expect(&rt, "removed");
+    fs::remove_dir(&rt, kept.as_str()).expect(&rt, "removed");
 }
 
 #[test]

@@ -1,0 +1,19 @@
+//! The folders in which files of the system stand.
+use std::fs::File;
+use std::path::Path;
+use std::rt::Files;
+
+/// The folder in which a path is looked for.
+pub fn folder_of(path: Path<'_>) -> Path<'_> {
+    match path.parent() {
+        Some(folder) if !folder.as_str().is_empty() => folder,
+        _ => Path::new("."),
+    }
+}
+
+/// Syncs a folder, so that the names that were made in it stay. Where it can't be opened or synced, it isn't.
+pub fn sync_folder<R: Files<File = File>>(files: &R, folder: Path<'_>) {
+    if let Ok(folder) = File::open(files, folder.as_str()) {
+        let _ = folder.sync_all();
+    }
+}
