@@ -7,6 +7,7 @@ import signal
 import stat
 import subprocess
 import tempfile
+import typing
 
 from folders import BEFORE, drafts_in, files_in, fresh, read, write
 
@@ -145,35 +146,55 @@ def preloaded(tests):
         yield library
 
 
-def killed(tests):
-    """A run is killed before each call on a file: each file is old or new, and the next run works and leaves nothing but the files."""
-    with preloaded(tests) as library:
-        for name, words, script, after in KILLED:
-            call = 1
-            while is_killed(tests, f'{name}: killed before call {call}', (*WHOLE, *words, 'F'), script, {**BEFORE, **after}, call, library):
-                call += 1
-            print(f'{name}: {call - 1} calls on files, killed before each')
+class Killed(typing.NamedTuple):
+    """A run that is killed: its name, its script, what the files have after it that it makes or changes, its words, and the drafts of runs that are
+    over, or for None a second name of F that was to become its backup."""
+    name: str
+    script: bytes
+    after: typing.Mapping
+    words: typing.Sequence = ()
+    drafts: typing.Sequence = ()
 
 
 KILLED = [
-    ('one file', (), b'1d\nw\nq\n', {'F': b'b\n'}),
-    ('one file with a backup', ('--backup=~',), b'1d\nw\nq\n', {'F': b'b\n', 'F~': b'a\nb\n'}),
-    ('three files, one of them new', (), b'1d\nw NEW\nw H\nw\nr H\nw H\nq\n', {'F': b'b\n', 'H': b'b\nb\n', 'NEW': b'b\n'}),
-    ('the bytes that the file has', (), b'w\nw H\nq\n', {'H': b'a\nb\n'}),
+    Killed('one file', b'1d\nw\nq\n', {'F': b'b\n'}),
+    Killed('one file with a backup', b'1d\nw\nq\n', {'F': b'b\n', 'F~': b'a\nb\n'}, words=('--backup=~',)),
+    Killed('three files, one of them new', b'1d\nw NEW\nw H\nw\nr H\nw H\nq\n', {'F': b'b\n', 'H': b'b\nb\n', 'NEW': b'b\n'}),
+    Killed('the bytes that the file has', b'w\nw H\nq\n', {'H': b'a\nb\n'}),
+    Killed('drafts of runs that are over', b'1d\nw\nq\n', {'F': b'b\n'}, drafts=(b'a\n', b'', b'b\n')),
+    Killed('a draft of a run that is over, and a backup', b'1d\nw\nq\n', {'F': b'b\n'}, drafts=(b'a\n', None)),
 ]
 
 
-def is_killed(tests, name, words, script, after, call, library):
+def killed(tests):
+    """A run is killed before each call on a file: each file is old or new, and the next run works and leaves nothing but the files."""
+    with preloaded(tests) as library:
+        for run in KILLED:
+            call = 1
+            while is_killed(tests, run, call, library):
+                call += 1
+            print(f'{run.name}: {call - 1} calls on files, killed before each')
+
+
+def is_killed(tests, run, call, library):
+    words, after = (*WHOLE, *run.words, 'F'), {**BEFORE, **run.after}
     with fresh() as folder:
+        for number, text in enumerate(run.drafts):
+            path = os.path.join(folder, f'.F.edv-{number}')
+            if text is None:
+                os.link(os.path.join(folder, 'F'), path)
+            else:
+                write(path, text)
         environment = {**os.environ, 'LD_PRELOAD': library, 'KILL': str(call)}
-        ran = subprocess.run([tests.program, *words], input=script, capture_output=True, cwd=folder, env=environment)
+        ran = subprocess.run([tests.program, *words], input=run.script, capture_output=True, cwd=folder, env=environment)
         left = {file: text for file, text in files_in(folder).items() if '.edv-' not in file}
         each = all(text in (BEFORE.get(file), after.get(file)) for file, text in left.items()) and BEFORE.keys() <= left.keys()
         for file in BEFORE:
             write(os.path.join(folder, file), BEFORE[file])
-        again = subprocess.run([tests.program, *words], input=script, capture_output=True, cwd=folder)
+        again = subprocess.run([tests.program, *words], input=run.script, capture_output=True, cwd=folder)
         is_right = each and (again.returncode, again.stderr, files_in(folder)) == (0, b'', after)
-        tests.check(name, is_right and ran.returncode in (0, -signal.SIGKILL), f'{ran}, {left}, {again}, {files_in(folder)}')
+        found = f'{ran}, {left}, {again}, {files_in(folder)}'
+        tests.check(f'{run.name}: killed before call {call}', is_right and ran.returncode in (0, -signal.SIGKILL), found)
         return ran.returncode == -signal.SIGKILL
 
 

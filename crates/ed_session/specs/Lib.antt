@@ -5,6 +5,7 @@ pub mod Sinks
 pub mod Drives
 pub mod Seen
 pub mod Work
+pub mod Stamps
 -- the tools for runs in memory
 pub mod MemFiles
 pub mod MemSinks

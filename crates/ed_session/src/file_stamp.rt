@@ -1,4 +1,7 @@
 //! What tells whether a file on a disk is as it was when a run read it.
+ghost use Rattle.std.specs.Prelude.{◌≡◌, ◌↔◌, IsTrue};
+ghost use Rattle.ed_session.specs.Stamps.{IsOneFile, IsStill};
+
 use std::fs::{File, Metadata, TryLockError};
 use std::os::unix::fs::MetadataExt;
 
@@ -57,17 +60,23 @@ impl FileStamp {
         }
     }
 
-    pub(crate) fn is_empty(&self) -> bool {
+    pub(crate) fn is_empty(&self) -> bool
+        ensures exact { IsTrue result ↔ (self.now.size ≡ 0) }
+    {
         self.size == 0
     }
 
     /// Whether both are of one file.
-    pub(crate) fn is_of_file(&self, other: &FileStamp) -> bool {
+    pub(crate) fn is_of_file(&self, other: &FileStamp) -> bool
+        ensures exact { IsTrue result ↔ IsOneFile self.now other.now }
+    {
         self.device == other.device && self.number == other.number
     }
 
     /// Whether a file that was so and is so now wasn't changed between, as far as these tell.
-    pub fn is_still(&self, now: &FileStamp) -> bool {
+    pub fn is_still(&self, now: &FileStamp) -> bool
+        ensures exact { IsTrue result ↔ IsStill self.now now.now }
+    {
         let same_time = match self.time {
             Time::Told(..) => self.time == now.time,
             Time::Own => true,

@@ -1,5 +1,6 @@
 //! What a run found at the paths that it read, so that it can be told whether others have changed a file since then.
-ghost use Rattle.std.specs.Prelude.{◌<◌, vec_len, vec_capacity, OnOk};
+ghost use Rattle.std.specs.Prelude.{◌<◌, ◌↔◌, vec_len, vec_capacity, IsTrue, OnOk};
+ghost use Rattle.ed_session.specs.Stamps.{LetsWrite};
 
 use crate::file_stamp::FileStamp;
 use ed_base::Bytes;
@@ -50,15 +51,9 @@ impl FoundFiles {
         None
     }
 
-    /// Whether a run may write this file, which stands at a path now: it wasn't read, or is as it was then, as far as is known. An empty one has
-    /// no bytes to lose, and may be made by the run's own opening.
+    /// Whether a run may write this file, which stands at a path now.
     pub(crate) fn allow(&self, path: &[u8], now: &FileStamp) -> bool {
-        match self.at(path) {
-            None => true,
-            Some(_) if now.is_empty() => true,
-            Some(Some(found)) => found.is_still(now),
-            Some(None) => false,
-        }
+        lets_write(self.at(path), now)
     }
 
     /// Notes what was found at a path whose read was answered so, a plain file or nothing, unless it was read before. There is room for it.
@@ -82,5 +77,18 @@ impl FoundFiles {
                 known.file = Some(file);
             }
         }
+    }
+}
+
+/// Whether a run may write this file, which stands now at a path where this was found when it was read: it wasn't read, or is as it was then, as far
+/// as is known. An empty one has no bytes to lose, and may be made by the run's own opening.
+fn lets_write(found: Option<Option<FileStamp>>, now: &FileStamp) -> bool
+    ensures exact { IsTrue result ↔ LetsWrite found now.now }
+{
+    match found {
+        None => true,
+        Some(_) if now.is_empty() => true,
+        Some(Some(was)) => was.is_still(now),
+        Some(None) => false,
     }
 }

@@ -1,7 +1,8 @@
 -- Which files drafts are of, or are to be of (our choice: a file is told by the numbers of its device and of itself; one that isn't there by those of its
 -- folder and by its name in it).
-use Rattle.std.specs.Prelude.{◌≢◌, List, [], ◌∷◌, All, map}
+use Rattle.std.specs.Prelude.{◌≢◌, List, [], ◌∷◌, All, map, Option, Some, None}
 use Rattle.whole.specs.declared.file_identity.FileIdentity.{FileIdentity}
+use Rattle.whole.specs.declared.backup.Backup.{Backup}
 use Rattle.whole.specs.declared.beside.Beside.{Beside}
 use Rattle.whole.specs.declared.planned.Planned.{Planned}
 
@@ -12,6 +13,11 @@ files_of drafts = map (λ draft. draft.file) drafts
 -- the files that are to be replaced at these paths, as the system told of them when they were looked at
 abbrev pub planned_files : List Planned → List FileIdentity
 planned_files planned = map (λ one. one.file) planned
+
+-- the file that has the name of a backup, or would have it
+abbrev pub backup_file : Option Backup → Option FileIdentity
+backup_file None = None
+backup_file (Some backup) = Some backup.file
 
 -- no two of these are one file
 abbrev pub AreDifferent : List FileIdentity → Type 0

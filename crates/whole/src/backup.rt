@@ -1,4 +1,7 @@
 //! The backup of a file that is to be replaced: a name under which the old file stays.
+ghost use Rattle.std.specs.Prelude.{◌≢◌, Some, IsFalse};
+ghost use Rattle.whole.specs.OneFile.{backup_file};
+
 use crate::draft_names::name_beside;
 use crate::file_identity::FileIdentity;
 use crate::plain_files::{file_to_replace, is_at, plain_file, refusal};
@@ -18,7 +21,9 @@ pub(crate) struct Backup {
 }
 
 /// Whether a file is a backup that is to be made, or would be.
-pub(crate) fn is_backup(backup: &Option<Backup>, file: &FileIdentity) -> bool {
+pub(crate) fn is_backup(backup: &Option<Backup>, file: &FileIdentity) -> bool
+    ensures other { IsFalse result → backup_file backup.now ≢ Some file.now }
+{
     match backup {
         Some(backup) => backup.file.is(file),
         None => false,

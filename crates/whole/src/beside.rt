@@ -1,6 +1,7 @@
 //! A draft beside a path. It is written, synced and given its mode and owner by the descriptor of the one open that made it: what stands
 //! at its name is looked at before it is renamed or removed, and not touched before that.
-ghost use Rattle.std.specs.Prelude.{◌≡◌, ◌≢◌, IfOk, IsFalse};
+ghost use Rattle.std.specs.Prelude.{◌≡◌, ◌≢◌, Some, IfOk, IsFalse};
+ghost use Rattle.whole.specs.OneFile.{backup_file};
 
 use crate::backup::{Backup, is_backup};
 use crate::draft_names::make_draft;
@@ -236,9 +237,12 @@ impl Beside {
 impl Takes for Beside {
     ghost target = { λ draft. draft.file };
 
+    ghost backup = { λ draft. backup_file draft.backup };
+
     /// Whether this file is the draft, or the one that it is of, or would be its backup.
     fn takes(&self, file: &FileIdentity) -> bool
         ensures other { IsFalse result → self.now.file ≢ file.now }
+        ensures other_backup { IsFalse result → backup_file self.now.backup ≢ Some file.now }
     {
         self.file.is(file) || self.draft.is(file) || is_backup(&self.backup, file)
     }

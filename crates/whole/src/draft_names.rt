@@ -39,45 +39,63 @@ pub(crate) fn name_beside(alloc: Global, path: &str, number: u32) -> io::Result<
     Ok(Path::new(path).with_file_name(alloc, name.as_str())?)
 }
 
-/// The first number with which no draft beside a path is named. Before it, those of runs that are over are removed.
+/// A number with which no draft beside a path is named: the first after those that stay. The drafts of runs that are over are removed, up to the
+/// first number at which there is nothing, the last one first: so a run that is killed at it leaves none beyond such a number.
 pub(crate) fn free_number<R: Files<File = File>>(
     alloc: Global,
     files: &R,
     path: &str,
 ) -> io::Result<u32> {
-    'numbers: for number in 0..MOST_NAMES {
+    let end = first_without(alloc, files, path)?;
+    let mut free = end;
+    'numbers: for number in (0..end).rev() {
         let name = name_beside(alloc, path, number)?;
-        match fs::symlink_metadata(files, name.as_str()) {
-            Ok(found) => {
-                let _ = remove_if_over(files, path, name.as_str(), &found);
-            }
-            // Whatever else is wrong with the name, its making will tell.
-            Err(_) => return Ok(number),
+        let is_removed = remove_if_over(files, path, name.as_str()).unwrap_or(false);
+        if is_removed && number + 1 == free {
+            free = number;
         }
     }
-    Err(refusal("too many drafts beside it"))
+    if free < MOST_NAMES {
+        Ok(free)
+    } else {
+        Err(too_many())
+    }
+}
+
+/// The first number at which nothing has the name of a draft beside a path, or that of all.
+fn first_without<R: Files<File = File>>(alloc: Global, files: &R, path: &str) -> io::Result<u32> {
+    'numbers: for number in 0..MOST_NAMES {
+        let name = name_beside(alloc, path, number)?;
+        // Whatever else is wrong with the name, its making will tell.
+        if fs::symlink_metadata(files, name.as_str()).is_err() {
+            return Ok(number);
+        }
+    }
+    Ok(MOST_NAMES)
+}
+
+/// Why no draft is made beside a path.
+fn too_many() -> io::Error {
+    refusal("too many drafts beside it")
 }
 
 /// Removes what stands at the name of a draft, if it is that of a run that is over: a plain file that nobody has locked, with no other
-/// name but that of the file whose backup it was to become, or that it has become.
-fn remove_if_over<R: Files<File = File>>(
-    files: &R,
-    path: &str,
-    name: &str,
-    found: &Metadata,
-) -> io::Result<()> {
-    let draft = FileIdentity::of(found);
+/// name but that of the file whose backup it was to become, or that it has become. Says whether it was.
+fn remove_if_over<R: Files<File = File>>(files: &R, path: &str, name: &str) -> io::Result<bool> {
+    let found = fs::symlink_metadata(files, name)?;
+    let draft = FileIdentity::of(&found);
     if !found.is_file() || found.nlink() > 1 && !is_at(files, path, &draft) {
-        return Ok(());
+        return Ok(false);
     }
     // Opened for both, it is not waited for, even if it has become a pipe by now.
     let file = OpenOptions::new().read(true).write(true).open(files, name)?;
     file.try_lock()?;
     // While this lock is held, no other run removes it.
-    if FileIdentity::of(&file.metadata()?).is(&draft) {
+    let is_it = FileIdentity::of(&file.metadata()?).is(&draft);
+    if is_it {
         fs::remove_file(files, name)?;
     }
-    Ok(())
+    Ok(is_it)
 }
 
 /// Makes an empty draft beside a path, at a name with this number or a later one, and locks it. One that is to take the place of a file is
@@ -109,7 +127,7 @@ pub(crate) fn make_draft<R: Files<File = File>>(
             Err(error) => return Err(error),
         }
     }
-    Err(refusal("too many drafts beside it"))
+    Err(too_many())
 }
 
 /// Locks a draft that was made just now, and says what it is; none if another run took it for one that is over, which it removes.

@@ -1,5 +1,7 @@
 //! A path that is to be replaced.
-ghost use Rattle.std.specs.Prelude.{◌≢◌, IsFalse};
+ghost use Rattle.std.specs.Prelude.{◌≢◌, ◌↔◌, Some, IsFalse, IsTrue};
+ghost use Rattle.ed_session.specs.Stamps.{IsAsRead};
+ghost use Rattle.whole.specs.OneFile.{backup_file};
 
 use crate::backup::{Backup, backup_name, is_backup};
 use crate::file_identity::FileIdentity;
@@ -18,7 +20,7 @@ pub(crate) struct Planned {
     /// Which file is there, or would be, and what the system tells of it, if it is there.
     pub(crate) file: FileIdentity,
     pub(crate) found: Option<Metadata>,
-    /// The first number with which no draft beside it is named.
+    /// A number with which no draft beside it is named, as far as was seen.
     pub(crate) number: u32,
     pub(crate) backup: Option<Backup>,
 }
@@ -55,22 +57,31 @@ impl Planned {
         })
     }
 
-    /// Whether what stands at the path is what was found there when it was read, a file or nothing, if it was read.
+    /// Whether what stands at the path is what was found there when it was read, if it was read.
     pub(crate) fn is_as(&self, read: Option<Option<FileStamp>>) -> bool {
-        let now = self.found.as_ref().map(FileStamp::of);
-        match (read, now) {
-            (None, _) | (Some(None), None) => true,
-            (Some(Some(read)), Some(now)) => read.is_still(&now),
-            _ => false,
-        }
+        is_as_read(read, self.found.as_ref().map(FileStamp::of))
+    }
+}
+
+/// Whether what stands at a path now, a file or nothing, is what was found there when it was read, if it was read.
+fn is_as_read(read: Option<Option<FileStamp>>, now: Option<FileStamp>) -> bool
+    ensures exact { IsTrue result ↔ IsAsRead read now }
+{
+    match (read, now) {
+        (None, _) | (Some(None), None) => true,
+        (Some(Some(read)), Some(now)) => read.is_still(&now),
+        _ => false,
     }
 }
 
 impl Takes for Planned {
     ghost target = { λ planned. planned.file };
 
+    ghost backup = { λ planned. backup_file planned.backup };
+
     fn takes(&self, file: &FileIdentity) -> bool
         ensures other { IsFalse result → self.now.file ≢ file.now }
+        ensures other_backup { IsFalse result → backup_file self.now.backup ≢ Some file.now }
     {
         self.file.is(file) || is_backup(&self.backup, file)
     }
