@@ -94,6 +94,21 @@ def read_sentence(text):
     return bounds.groupdict() if bounds else {}, patterns_in(has.group(1)) if has else [], conditions
 
 
+def read_list(texts):
+    """The same of conditions that stand one a line."""
+    bounds, has, conditions = {}, [], []
+    for text in texts:
+        words = Words(text)
+        if found := BOUNDS.fullmatch(f' of {text}'):
+            bounds = found.groupdict()
+        elif words.take_word('a line that matches '):
+            has += patterns_in(text)
+        else:
+            conditions.append(read_condition(words))
+            assert not words.text, (text, words.text)
+    return bounds, has, conditions
+
+
 def is_within(bounds, count):
     number = {key: int(value) for key, value in bounds.items() if value and key != 'none'}
     if bounds.get('none'):
@@ -180,7 +195,7 @@ def run(words, script, folder):
 
 
 def told_of(generator, folder):
-    """A start in words, with its certificate in the folder; nothing where it is none, or not all of it is told."""
+    """A start in words and as it is read, with its certificate in the folder; nothing where it is none, or not all of it is told."""
     words = [f'--at={chain(generator)}' for _ in range(generator.choice([1, 1, 1, 2]))]
     words += [f'--has={generator.choice(PATTERNS)}' for _ in range(generator.choice([0, 0, 0, 1, 2]))]
     words += generator.choice([[], [], [], ['--max', '4'], ['--min', '2'], ['--max', '1']])
@@ -190,9 +205,13 @@ def told_of(generator, folder):
         return None
     with open(os.path.join(folder, 'CERT'), 'wb') as cert:
         cert.write(ran.stdout)
-    assert said[0].startswith('vouched for: '), said
+    assert all(line.startswith('vouched for: ') for line in said), said
+    first, *more = (line[len('vouched for: '):] for line in said)
+    if more:
+        assert first == 'any F of which each of these is so', said
+        return words, first, read_list(text.removeprefix('  ') for text in more)
     # What is cut for its length is no whole sentence.
-    return None if said[0].endswith(' more') else (words, said[0][len('vouched for: '):])
+    return None if first.endswith(' more') else (words, first, read_sentence(first))
 
 
 def main():
@@ -201,13 +220,14 @@ def main():
     generator = random.Random(seed)
     starts = cases = fit = wrong = 0
     with tempfile.TemporaryDirectory() as folder:
+        # A file that isn't there would be told of before the start.
+        open(os.path.join(folder, 'F'), 'w').close()
         while cases < count:
             told = told_of(generator, folder)
             if told is None:
                 continue
             starts += 1
-            words, text = told
-            sentence = read_sentence(text)
+            words, text, sentence = told
             for _ in range(4):
                 lines = [generator.choice(TEXTS) for _ in range(min(generator.randrange(0, 10), 5))]
                 with open(os.path.join(folder, 'F'), 'w') as file:

@@ -22,7 +22,7 @@ struct Pair {
 }
 
 #[rattlefmt::skip]
-static PAIRS: [Pair; 22] = [
+static PAIRS: [Pair; 26] = [
     Pair { one: b"^a=", other: b"^b=", both: Told::NoText, one_alone: Told::Text(b"a="), other_alone: Told::Text(b"b=") },
     Pair { one: b"^#Port", other: b"^#", both: Told::Text(b"#Port"), one_alone: Told::NoText, other_alone: Told::Text(b"#") },
     Pair { one: b"^a=", other: b"=", both: Told::Text(b"a="), one_alone: Told::NoText, other_alone: Told::Text(b"=") },
@@ -39,11 +39,16 @@ static PAIRS: [Pair; 22] = [
     // Sets. Letters come before digits, and digits before what else can be printed.
     Pair { one: b"^[^a]", other: b"^[[:alpha:]]", both: Told::Text(b"b"), one_alone: Told::Text(b"0"), other_alone: Told::Text(b"a") },
     Pair { one: b"^[^[:alpha:]]", other: b"^[b-y]", both: Told::NoText, one_alone: Told::Text(b"0"), other_alone: Told::Text(b"b") },
+    Pair { one: b"^b*$", other: b"^$", both: Told::Text(b""), one_alone: Told::Text(b"b"), other_alone: Told::NoText },
+    Pair { one: b"^[^[:lower:][:digit:]]$", other: b"!", both: Told::Text(b"!"), one_alone: Told::Text(b"A"), other_alone: Told::Text(b"a!") },
     Pair { one: b"^[^[:alnum:]]$", other: b"!", both: Told::Text(b"!"), one_alone: Told::Text(b"\""), other_alone: Told::Text(b"a!") },
     // A longer text that can be printed comes before a shorter one that can't, and a tab before what else can't.
     Pair { one: b"^\t\\{0,1\\}a*$", other: b"^a\\{0,3\\}$", both: Told::Text(b""), one_alone: Told::Text(b"aaaa"), other_alone: Told::NoText },
     Pair { one: b"^[^ -~]$", other: b"a", both: Told::NoText, one_alone: Told::Text(b"\t"), other_alone: Told::Text(b"a") },
     Pair { one: b"^[^\x00-\xfe]$", other: b"a", both: Told::NoText, one_alone: Told::Text(b"\xff"), other_alone: Told::Text(b"a") },
+    // Here 256 sets of marks are looked at, and there 201 byte sets stand in one pattern.
+    Pair { one: b"a.\\{6\\}b$", other: b"c$", both: Told::NoText, one_alone: Told::Text(b"aaaaaaab"), other_alone: Told::Text(b"c") },
+    Pair { one: b"^a\\{0,200\\}b$", other: b"^b", both: Told::Text(b"b"), one_alone: Told::Text(b"ab"), other_alone: Told::Text(b"ba") },
     // No text matches both of these, and some match the first alone, but more than 256 sets of marks would have to be looked at.
     Pair { one: b"a.\\{9\\}b$", other: b"c$", both: Told::Unknown, one_alone: Told::Unknown, other_alone: Told::Text(b"c") },
     // Of back-references, ranges up to the last byte and more than 256 byte sets nothing is told.
