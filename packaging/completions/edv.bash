@@ -22,11 +22,11 @@ _edv() {
   -*)
     local words=
     case $job in
-    edit) words="--vouched --like --at --whole --backup --unchanged -n --dry-run -s -p -f --help" ;;
+    edit) words="--vouched --like --at --whole --backup --unchanged -n --dry-run --diff -s -p -f --help" ;;
     vouch) words="--like --min --max --all -q --quiet --patterns --has --at -f --help" ;;
     explain) words="--like --min --max --patterns --has --at -f --help" ;;
     check) words="-f --help" ;;
-    run) words="--whole --backup -n --dry-run -s -f --help" ;;
+    run) words="--whole --backup -n --dry-run --diff -s -f --help" ;;
     fits) words="--help" ;;
     esac
     mapfile -t COMPREPLY < <(compgen -W "$words" -- "$word")

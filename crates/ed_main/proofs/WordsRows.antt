@@ -21,7 +21,7 @@ edit silent prompt path = Some (job.Edit (record { silent = silent; prompt = pro
 
 -- its rehearsal
 abbrev rehearsal : Bool → Option (List ℕ) → Option (List ℕ) → Option Job
-rehearsal silent prompt path = Some (job.Edit (record { silent = silent; prompt = prompt; path = path }) None (writing.Never false false None) None)
+rehearsal silent prompt path = Some (job.Edit (record { silent = silent; prompt = prompt; path = path }) None (writing.Never false false false None) None)
 
 -- a run on F whose writes are made so
 abbrev edit_so : Writing → Option Job
@@ -34,7 +34,7 @@ over_any false = None
 
 -- a run on F only if the script is vouched for, or its rehearsal
 abbrev edit_vouched : (rehearsed : Bool) → Option Job
-edit_vouched rehearsed = Some (job.Edit (record { silent = false; prompt = None; path = Some (codes "F") }) None (writing_of rehearsed false false None) (over_any true))
+edit_vouched rehearsed = Some (job.Edit (record { silent = false; prompt = None; path = Some (codes "F") }) None (writing_of rehearsed false false false None) (over_any true))
 
 -- the start that a script is judged over without a file
 abbrev over_nothing : Starts
@@ -114,7 +114,7 @@ run_so writes = Some (job.Run (codes "C") (record { silent = false; prompt = Non
 
 -- its rehearsal
 abbrev rehearsed_run : List ℕ → Bool → Option (List ℕ) → Option Job
-rehearsed_run certificate silent path = Some (job.Run certificate (record { silent = silent; prompt = None; path = path }) None (writing.Never false false None))
+rehearsed_run certificate silent path = Some (job.Run certificate (record { silent = silent; prompt = None; path = path }) None (writing.Never false false false None))
 
 -- what each does with a file F and the script in a file S
 abbrev edit_from_file : (silent vouched : Bool) → Option Job
@@ -298,14 +298,14 @@ words =
     ∷ row (job_given (codes "check" ∷ codes "-q" ∷ codes "C" ∷ []) ≡ None) refl  -- a quiet check
     ∷ row (job_given (codes "edit" ∷ codes "--whole" ∷ codes "F" ∷ []) ≡ edit_whole false) refl  -- replaced whole
     ∷ row (job_given (codes "edit" ∷ codes "F" ∷ codes "--vouched" ∷ codes "--whole" ∷ []) ≡ edit_whole true) refl  -- vouched for, and replaced whole
-    ∷ row (job_given (codes "edit" ∷ codes "--whole" ∷ codes "-n" ∷ codes "F" ∷ []) ≡ edit_so (writing.Never true false None)) refl  -- replaced whole, rehearsed
+    ∷ row (job_given (codes "edit" ∷ codes "--whole" ∷ codes "-n" ∷ codes "F" ∷ []) ≡ edit_so (writing.Never true false false None)) refl  -- replaced whole, rehearsed
     ∷ row (job_given (codes "run" ∷ codes "--whole" ∷ codes "C" ∷ codes "F" ∷ []) ≡ run_so (writing.AtTheEnd None)) refl  -- run, and replaced whole
     ∷ row (job_given (codes "edit" ∷ codes "--whole" ∷ codes "--whole" ∷ codes "F" ∷ []) ≡ None) refl  -- whole twice
     ∷ row (job_given (codes "vouch" ∷ codes "--whole" ∷ codes "F" ∷ []) ≡ None) refl  -- vouched whole
     ∷ row (job_given (codes "fits" ∷ codes "--whole" ∷ codes "C" ∷ []) ≡ None) refl  -- fits whole
     ∷ row (job_given (codes "edit" ∷ codes "--whole" ∷ codes "--backup" ∷ codes ".orig" ∷ codes "F" ∷ []) ≡ edit_so (writing.AtTheEnd (Some (codes ".orig")))) refl  -- replaced whole, and kept
     ∷ row (job_given (codes "edit" ∷ codes "--backup=-old" ∷ codes "F" ∷ codes "--whole" ∷ []) ≡ edit_so (writing.AtTheEnd (Some (codes "-old")))) refl  -- kept under a name that ends like an option
-    ∷ row (job_given (codes "edit" ∷ codes "--backup" ∷ codes "~" ∷ codes "--whole" ∷ codes "-n" ∷ codes "F" ∷ []) ≡ edit_so (writing.Never true false (Some (codes "~")))) refl  -- kept, rehearsed
+    ∷ row (job_given (codes "edit" ∷ codes "--backup" ∷ codes "~" ∷ codes "--whole" ∷ codes "-n" ∷ codes "F" ∷ []) ≡ edit_so (writing.Never true false false (Some (codes "~")))) refl  -- kept, rehearsed
     ∷ row (job_given (codes "run" ∷ codes "--whole" ∷ codes "--backup" ∷ codes "~" ∷ codes "C" ∷ codes "F" ∷ []) ≡ run_so (writing.AtTheEnd (Some (codes "~")))) refl  -- run, and kept
     ∷ row (job_given (codes "edit" ∷ codes "--backup" ∷ codes ".orig" ∷ codes "F" ∷ []) ≡ None) refl  -- kept, and not replaced whole
     ∷ row (job_given (codes "edit" ∷ codes "-n" ∷ codes "--backup" ∷ codes ".orig" ∷ codes "F" ∷ []) ≡ None) refl  -- kept, rehearsed, and not replaced whole
@@ -318,7 +318,13 @@ words =
     ∷ row (job_given (codes "vouch" ∷ codes "--backup" ∷ codes ".orig" ∷ codes "F" ∷ []) ≡ None) refl  -- vouched and kept
     ∷ row (job_given (codes "edit" ∷ codes "--unchanged" ∷ codes "F" ∷ []) ≡ edit_so (writing.AtOnce true)) refl  -- spared
     ∷ row (job_given (codes "edit" ∷ codes "--unchanged" ∷ codes "--whole" ∷ codes "F" ∷ []) ≡ edit_so (writing.AtTheEnd None)) refl  -- spared, as whole files are
-    ∷ row (job_given (codes "edit" ∷ codes "-n" ∷ codes "F" ∷ codes "--unchanged" ∷ []) ≡ edit_so (writing.Never false true None)) refl  -- spared, rehearsed
+    ∷ row (job_given (codes "edit" ∷ codes "-n" ∷ codes "F" ∷ codes "--unchanged" ∷ []) ≡ edit_so (writing.Never false true false None)) refl  -- spared, rehearsed
+    ∷ row (job_given (codes "edit" ∷ codes "-n" ∷ codes "--diff" ∷ codes "F" ∷ []) ≡ edit_so (writing.Never false false true None)) refl  -- shown, rehearsed
+    ∷ row (job_given (codes "edit" ∷ codes "--diff" ∷ codes "--whole" ∷ codes "-n" ∷ codes "F" ∷ []) ≡ edit_so (writing.Never true false true None)) refl  -- and replaced whole
+    ∷ row (job_given (codes "edit" ∷ codes "--diff" ∷ codes "F" ∷ []) ≡ None) refl  -- shown, and not rehearsed
+    ∷ row (job_given (codes "run" ∷ codes "--diff" ∷ codes "C" ∷ codes "F" ∷ []) ≡ None) refl  -- so by run
+    ∷ row (job_given (codes "run" ∷ codes "-n" ∷ codes "--diff" ∷ codes "C" ∷ codes "F" ∷ []) ≡ run_so (writing.Never false false true None)) refl  -- run, rehearsed and shown
+    ∷ row (job_given (codes "vouch" ∷ codes "--diff" ∷ codes "F" ∷ []) ≡ None) refl  -- vouched and shown
     ∷ row (job_given (codes "run" ∷ codes "C" ∷ codes "--unchanged" ∷ codes "F" ∷ []) ≡ None) refl  -- run, and spared
     ∷ row (job_given (codes "edit" ∷ codes "--unchanged" ∷ codes "--unchanged" ∷ codes "F" ∷ []) ≡ None) refl  -- spared twice
     ∷ row (job_given (codes "check" ∷ codes "--unchanged" ∷ codes "C" ∷ []) ≡ None) refl  -- checked and spared

@@ -108,7 +108,7 @@ ComesBy trust.Unchecked script = Edits script
 ComesBy (trust.Certified name certificate) script = RunsOn script certificate.now
 ComesBy (trust.Vouched starts) script = EditsVouched starts script
 
--- the status of a rehearsal whose run came to one by itself: that of a file that is refused, where one of its writes is hindered
+-- the status of a rehearsal whose run came to one by itself: that of a file that is refused, where one of its writes is hindered or can't be shown
 abbrev pub status_ahead : (ran : ℕ) → (is_hindered : Bool) → ℕ
 status_ahead ran is_hindered = if is_hindered then status_of fault.File else ran
 
@@ -124,7 +124,7 @@ pub record EndsRehearsed (log : Log) (ran status : ℕ) : Type 0 where
 abbrev pub AreMade : Writing → Log → (ran status : ℕ) → Type 0
 AreMade (writing.AtOnce spares) log ran status = status ≡ ran
 AreMade (writing.AtTheEnd suffix) log ran status = HeldBack log ran status
-AreMade (writing.Never whole spares suffix) log ran status = EndsRehearsed log ran status
+AreMade (writing.Never whole spares shows suffix) log ran status = EndsRehearsed log ran status
 
 -- a run came to this with what it met, and its writes were made so
 abbrev pub Writes : Writing → (Met → ℕ → Type 0) → Met → ℕ → Type 0

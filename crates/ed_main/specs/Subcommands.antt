@@ -12,6 +12,10 @@ silent = record (new_rule (codes "silent")) { short = Some 115; action = Some Se
 abbrev pub rehearsed : Rule
 rehearsed = record (new_rule (codes "rehearsed")) { short = Some 110; long = Some (codes "dry-run"); action = Some SetTrue }
 
+-- `--diff`
+abbrev pub diff : Rule
+diff = record (new_rule (codes "diff")) { long = Some (codes "diff"); action = Some SetTrue }
+
 -- `--vouched`
 abbrev pub vouched : Rule
 vouched = record (new_rule (codes "vouched")) { long = Some (codes "vouched"); action = Some SetTrue }
@@ -88,9 +92,9 @@ certificate = record notes { required = true }
 abbrev pub subcommand : List ℕ → List Rule → App
 subcommand name takes = on_top (λ s. record s { rules = takes }) (new_app name)
 
--- `edit [--vouched] [--like FILE] [--at CHAIN] [--whole] [--backup SUFFIX] [--unchanged] [-n] [-s] [-p STRING] [-f SCRIPT] [FILE]`
+-- `edit [--vouched] [--like FILE] [--at CHAIN] [--whole] [--backup SUFFIX] [--unchanged] [-n] [--diff] [-s] [-p STRING] [-f SCRIPT] [FILE]`
 abbrev pub edit : App
-edit = subcommand (codes "edit") (vouched ∷ like ∷ at ∷ whole ∷ backup ∷ unchanged ∷ rehearsed ∷ silent ∷ prompt ∷ script ∷ file ∷ [])
+edit = subcommand (codes "edit") (vouched ∷ like ∷ at ∷ whole ∷ backup ∷ unchanged ∷ rehearsed ∷ diff ∷ silent ∷ prompt ∷ script ∷ file ∷ [])
 
 -- `vouch [--like FILE] [--min N] [--max M] [--all] [-q] [--patterns] [--has RE] [--at CHAIN] [-f SCRIPT] [FILE]`
 abbrev pub vouch : App
@@ -104,9 +108,9 @@ explain = subcommand (codes "explain") (like ∷ min ∷ max ∷ patterns ∷ ha
 abbrev pub check : App
 check = subcommand (codes "check") (script ∷ certificate ∷ [])
 
--- `run [--whole] [--backup SUFFIX] [-n] [-s] [-f SCRIPT] CERT [FILE]`
+-- `run [--whole] [--backup SUFFIX] [-n] [--diff] [-s] [-f SCRIPT] CERT [FILE]`
 abbrev pub run : App
-run = subcommand (codes "run") (whole ∷ backup ∷ rehearsed ∷ silent ∷ script ∷ certificate ∷ file ∷ [])
+run = subcommand (codes "run") (whole ∷ backup ∷ rehearsed ∷ diff ∷ silent ∷ script ∷ certificate ∷ file ∷ [])
 
 -- `fits CERT [FILE]`
 abbrev pub fits : App

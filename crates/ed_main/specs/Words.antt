@@ -59,11 +59,12 @@ options_in rows = record {
 }
 
 -- When the writes of a run are to be made: never where it is to be rehearsed, else at its end where files are to be replaced whole. There the old
--- ones may be kept, under names with a suffix. Written at once, files that have the bytes already may be spared.
-abbrev pub writing_of : (rehearsed whole spares : Bool) → (suffix : Option (List ℕ)) → Writing
-writing_of true whole spares suffix = writing.Never whole spares suffix
-writing_of false true spares suffix = writing.AtTheEnd suffix
-writing_of false false spares suffix = writing.AtOnce spares
+-- ones may be kept, under names with a suffix. Written at once, files that have the bytes already may be spared. What a rehearsal would change may be
+-- shown.
+abbrev pub writing_of : (rehearsed whole spares shows : Bool) → (suffix : Option (List ℕ)) → Writing
+writing_of true whole spares shows suffix = writing.Never whole spares shows suffix
+writing_of false true spares shows suffix = writing.AtTheEnd suffix
+writing_of false false spares shows suffix = writing.AtOnce spares
 
 -- a suffix leads from a file to another name in its folder: it isn't empty and has no slash
 abbrev pub is_suffix : List ℕ → Bool
@@ -74,16 +75,20 @@ abbrev pub may_keep : (whole : Bool) → (suffix : Option (List ℕ)) → Bool
 may_keep whole None = true
 may_keep whole (Some suffix) = whole && is_suffix suffix
 
-abbrev pub writing_with : (rehearsed whole spares : Bool) → (suffix : Option (List ℕ)) → Option Writing
-writing_with rehearsed whole spares suffix = elim (may_keep whole suffix) [
-  | true ↦ Some (writing_of rehearsed whole spares suffix)
+-- what would change is shown where a run is rehearsed
+abbrev pub may_show : (rehearsed shows : Bool) → Bool
+may_show rehearsed shows = rehearsed || not shows
+
+abbrev pub writing_with : (rehearsed whole spares shows : Bool) → (suffix : Option (List ℕ)) → Option Writing
+writing_with rehearsed whole spares shows suffix = elim (may_show rehearsed shows && may_keep whole suffix) [
+  | true ↦ Some (writing_of rehearsed whole spares shows suffix)
   | false ↦ None
 ]
 
 abbrev pub writing_in : List Row → Option Writing
 writing_in rows =
     writing_with (is_given (first_of (codes "rehearsed") rows)) (is_given (first_of (codes "whole") rows))
-    (is_given (first_of (codes "unchanged") rows)) (first_of (codes "backup") rows)
+    (is_given (first_of (codes "unchanged") rows)) (is_given (first_of (codes "diff") rows)) (first_of (codes "backup") rows)
 
 -- a script is only to be run if it is vouched for
 abbrev pub is_to_be_vouched : List Row → Bool

@@ -4,6 +4,8 @@ ghost use Rattle.std.specs.Prelude.{◌≢◌, [], IsTrue};
 ghost use Rattle.ed_session.specs.MemFiles.{log_of};
 ghost use Rattle.rehearsal.specs.Held.{writes_of};
 
+use crate::diffs::show_diffs;
+use crate::screen::Screen;
 use crate::suffix::Suffix;
 use ed_base::Bytes;
 use ed_calls::{show_held, show_unwritten};
@@ -20,15 +22,16 @@ use whole::Lookahead;
 
 /// Shows the writes of a rehearsal, as they would have been made, or why they couldn't be, and says whether one couldn't be: in place, or where
 /// files are to be replaced whole, by a look ahead at their paths. What would be left as it is, since it has the bytes already, is told where files
-/// are spared.
+/// are spared. What they would change is shown too where that is asked for; that it couldn't be shown is said as of a write.
 pub fn show_writes<R, O>(
     rt: &R,
     rehearsal: &mut Rehearsal<O>,
     ahead: Option<Lookahead>,
     spares: bool,
+    shows: bool,
 ) -> bool
 where
-    R: Files<File = File> + Eprint + AllocGlobal,
+    R: Files<File = File> + Print + Eprint + AllocGlobal + Screen,
     O: Outside + Drop,
     ensures some { IsTrue result → writes_of (log_of rehearsal.old.files) ≢ [] }
 {
@@ -39,7 +42,8 @@ where
         let _ = look_which_stay(rt, rehearsal, &mut stay);
     }
     let is_hindered = show_each(rt, rehearsal.writes(), stay.as_slice(), ahead);
-    is_one && is_hindered
+    let is_untold = shows && !show_diffs(rt, rehearsal);
+    is_one && (is_hindered || is_untold)
 }
 
 /// A look ahead at the files of a run, where they are to be replaced whole, and kept under their names with this suffix if there is one.

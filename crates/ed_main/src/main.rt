@@ -3,6 +3,7 @@
 
 mod any_start;
 mod chains;
+mod diffs;
 mod hindered;
 mod inputs;
 mod job;
@@ -11,6 +12,7 @@ mod paths;
 mod patterns;
 mod program;
 mod proposing;
+mod screen;
 mod several;
 mod stderr;
 mod subcommands;

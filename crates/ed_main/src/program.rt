@@ -18,6 +18,7 @@ use crate::job::Job;
 use crate::letters::{USAGE_STATUS, refusal_for};
 use crate::paths::Paths;
 use crate::proposing::starts_from;
+use crate::screen::Screen;
 use crate::several::judge_scripts;
 use crate::stderr::notes::{
     show_empty, show_if_missing, show_mistaken, show_no_file, show_terminal,
@@ -43,7 +44,7 @@ use std::{env, io};
 /// Does what the program's words say, and gives its exit status.
 pub fn status_of_run<R>(rt: &R) -> u8
 where
-    R: Env + Files<File = File> + Input + Print + Eprint + AllocGlobal,
+    R: Env + Files<File = File> + Input + Print + Eprint + AllocGlobal + Screen,
     R::Reader: IsTerminal,
     ensures status { result ≤ 5 }
     ensures ending { IsEnding result }
@@ -98,7 +99,7 @@ fn job_of_run<R: Env + AllocGlobal>(rt: &R) -> Result<Job, WordsFault>
 /// Does a job with the script's bytes, unless its file is the script that was meant.
 fn do_if_meant<R>(rt: &R, script: &[u8], job: Job) -> u8
 where
-    R: Files<File = File> + Print + Eprint + AllocGlobal,
+    R: Files<File = File> + Print + Eprint + AllocGlobal + Screen,
     requires given { IsGiven job }
     ensures status { result ≤ 5 }
     ensures ending { IsEnding result }
@@ -122,7 +123,7 @@ fn is_mistaken(script: &[u8], job: &Job) -> bool
 /// Does a job with the script's bytes.
 fn do_job<R>(rt: &R, script: &[u8], job: Job) -> u8
 where
-    R: Files<File = File> + Print + Eprint + AllocGlobal,
+    R: Files<File = File> + Print + Eprint + AllocGlobal + Screen,
     requires given { IsGiven job }
     ensures status { result ≤ 5 }
     ensures did { Does script.now job result }
@@ -177,7 +178,7 @@ fn edit_by<R>(
     judged: Option<Wanted>,
 ) -> u8
 where
-    R: Files<File = File> + Print + Eprint + AllocGlobal,
+    R: Files<File = File> + Print + Eprint + AllocGlobal + Screen,
     requires given { IfSome judged IsWanted }
     ensures status { result ≤ 5 }
     ensures did { (named : Option (List ℕ)) → Does script.now (jobs.Edit options named writing judged) result }
@@ -191,7 +192,7 @@ where
 /// Runs a script on a file, or rehearses that.
 fn edit_file<R>(rt: &R, script: &[u8], options: Options, writing: Writing) -> u8
 where
-    R: Files<File = File> + Print + Eprint + AllocGlobal,
+    R: Files<File = File> + Print + Eprint + AllocGlobal + Screen,
     ensures status { result ≤ 5 }
     ensures came { Somehow (Writes writing (Edits script.now options)) result }
 {
@@ -206,7 +207,7 @@ where
 /// The same, only if the script is vouched for over the start that is asked for.
 fn edit_wanted<R>(rt: &R, script: &[u8], options: Options, writing: Writing, wanted: Wanted) -> u8
 where
-    R: Files<File = File> + Print + Eprint + AllocGlobal,
+    R: Files<File = File> + Print + Eprint + AllocGlobal + Screen,
     requires given { IsWanted wanted }
     ensures status { result ≤ 5 }
     ensures came { WithStarts wanted (λ starts. WithLetters script.now starts (Somehow (Writes writing (EditsVouched starts script.now options)))) result }
@@ -227,7 +228,7 @@ fn edit_if_lettered<R>(
     starts: Starts,
 ) -> u8
 where
-    R: Files<File = File> + Print + Eprint + AllocGlobal,
+    R: Files<File = File> + Print + Eprint + AllocGlobal + Screen,
     requires given { AreStarts starts }
     ensures status { result ≤ 5 }
     ensures came { WithLetters script.now starts (Somehow (Writes writing (EditsVouched starts script.now options))) result }
@@ -241,7 +242,7 @@ where
 /// The same, only if the script is vouched for over this start.
 fn edit_over<R>(rt: &R, script: &[u8], options: Options, writing: Writing, starts: Starts) -> u8
 where
-    R: Files<File = File> + Print + Eprint + AllocGlobal,
+    R: Files<File = File> + Print + Eprint + AllocGlobal + Screen,
     requires given { AreStarts starts }
     ensures status { result ≤ 5 }
     ensures came { Somehow (Writes writing (EditsVouched starts script.now options)) result }
@@ -416,7 +417,7 @@ fn run_file<'a, R>(
     writing: Writing,
 ) -> u8
 where
-    R: Files<File = File> + Print + Eprint + AllocGlobal,
+    R: Files<File = File> + Print + Eprint + AllocGlobal + Screen,
     ensures status { result ≤ 5 }
     ensures came { WithFile (λ certificate. Somehow (Writes writing (RunsOn script.now certificate options))) result }
 {

@@ -41,6 +41,7 @@ fn edit<'a>(alloc: Global) -> Result<Command<'a>, AllocError>
             backup(alloc),
             unchanged(alloc),
             rehearsed(alloc),
+            diff(alloc),
             silent(alloc),
             prompt(alloc),
             script(alloc),
@@ -121,6 +122,7 @@ fn run<'a>(alloc: Global) -> Result<Command<'a>, AllocError>
             whole(alloc),
             backup(alloc),
             rehearsed(alloc),
+            diff(alloc),
             silent(alloc),
             script(alloc),
             certificate(alloc),
@@ -208,6 +210,16 @@ fn rehearsed<'a>(alloc: Global) -> Arg<'a>
         .long("dry-run")
         .action(ArgAction::SetTrue)
         .help("Writes no file, and says on standard error what would be written")
+}
+
+fn diff<'a>(alloc: Global) -> Arg<'a>
+    ensures value { rule_of result ≡ meaning.diff }
+    ensures local { result.global ≡ false }
+{
+    Arg::new(alloc, "diff")
+        .long("diff")
+        .action(ArgAction::SetTrue)
+        .help("Writes what -n would change in each file, as a unified diff")
 }
 
 fn silent<'a>(alloc: Global) -> Arg<'a>

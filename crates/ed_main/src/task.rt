@@ -5,6 +5,7 @@ ghost use Rattle.ed_session.specs.Sinks.{change};
 ghost use Rattle.ed_main.specs.Program.{Comes, ComesBy, IsTrusted, Ran, Somehow, status_ahead};
 
 use crate::hindered::{look_ahead, show_writes};
+use crate::screen::Screen;
 use crate::stderr::notes::show_if_missing;
 use crate::suffix::Suffix;
 use crate::whole_files::replace_whole;
@@ -101,7 +102,7 @@ impl<'a> Task<'a> {
 /// Does a task over the system's files and the standard output, or rehearses it.
 pub fn do_task<R>(rt: &R, task: Task<'_>, writing: Writing) -> u8
 where
-    R: Files<File = File> + Print + Eprint + AllocGlobal,
+    R: Files<File = File> + Print + Eprint + AllocGlobal + Screen,
     requires trusted { IsTrusted task.trust }
     ensures status { result ≤ 5 }
     ensures came { Somehow (Comes writing task.entry) result }
@@ -115,19 +116,27 @@ where
         Writing::Never {
             whole,
             spares,
+            shows,
             suffix,
-        } => rehearse(rt, task, whole, spares, suffix),
+        } => rehearse(rt, task, whole, spares, shows, suffix),
     }
 }
 
 /// Does a task over the system's files, of which none is written, and shows what would have been, and which of them couldn't be: replaced whole
-/// and kept under their names with this suffix if there is one, or written in place.
-fn rehearse<R>(rt: &R, task: Task<'_>, whole: bool, spares: bool, suffix: Option<Suffix>) -> u8
+/// and kept under their names with this suffix if there is one, or written in place. What they would have changed is shown where that is asked for.
+fn rehearse<R>(
+    rt: &R,
+    task: Task<'_>,
+    whole: bool,
+    spares: bool,
+    shows: bool,
+    suffix: Option<Suffix>,
+) -> u8
 where
-    R: Files<File = File> + Print + Eprint + AllocGlobal,
+    R: Files<File = File> + Print + Eprint + AllocGlobal + Screen,
     requires trusted { IsTrusted task.trust }
     ensures status { result ≤ 5 }
-    ensures came { Somehow (Comes (Writing.Never whole spares suffix) task.entry) result }
+    ensures came { Somehow (Comes (Writing.Never whole spares shows suffix) task.entry) result }
 {
     let rehearsal = Rehearsal::new(rt.alloc(), DiskFiles::new(rt.alloc(), rt));
     let mut files = Watched::new(rt.alloc(), rehearsal, task.options.path.is_some());
@@ -137,11 +146,11 @@ where
     rehearsal.writes_are_done();
     rehearsal.reads_show_what_was_written();
     let ahead = look_ahead(rt.alloc(), whole, suffix);
-    let is_hindered = show_writes(rt, &mut rehearsal, ahead, spares);
+    let is_hindered = show_writes(rt, &mut rehearsal, ahead, spares, shows);
     status_ahead(status, is_hindered)
 }
 
-/// The status of a rehearsal whose run came to this one: one of the writes that would have been made is hindered, or none is.
+/// The status of a rehearsal whose run came to this one: one of the writes that would have been made is hindered, or can't be shown, or none is.
 fn status_ahead(ran: u8, is_hindered: bool) -> u8
     ensures value { result ≡ status_ahead ran is_hindered }
 {

@@ -17,24 +17,32 @@ pub enum Writing {
         suffix: Option<Suffix>,
     },
     /// Never: the run is rehearsed, by what files allow that are to be replaced whole, and kept under their names with this suffix if there
-    /// is one, or that are to be written in place.
+    /// is one, or that are to be written in place. What would change may be shown.
     Never {
         whole: bool,
         spares: bool,
+        shows: bool,
         suffix: Option<Suffix>,
     },
 }
 
 impl Writing {
-    /// When they are made where a run may be asked to be rehearsed, its files to be replaced whole, or to be spared, and a suffix may be given for
-    /// the old ones. One that is rehearsed writes none.
-    pub fn of(rehearsed: bool, whole: bool, spares: bool, suffix: Option<Suffix>) -> Writing
-        ensures value { result ≡ writing_of rehearsed whole spares suffix }
+    /// When they are made where a run may be asked to be rehearsed, its files to be replaced whole, or to be spared, and what would change to be
+    /// shown, and a suffix may be given for the old ones. One that is rehearsed writes none.
+    pub fn of(
+        rehearsed: bool,
+        whole: bool,
+        spares: bool,
+        shows: bool,
+        suffix: Option<Suffix>,
+    ) -> Writing
+        ensures value { result ≡ writing_of rehearsed whole spares shows suffix }
     {
         match (rehearsed, whole) {
             (true, _) => Writing::Never {
                 whole,
                 spares,
+                shows,
                 suffix,
             },
             (false, true) => Writing::AtTheEnd { suffix },

@@ -10,16 +10,16 @@ use std::alloc::{AllocError, Global};
 
 /// How the program is used.
 pub const USAGE: &str = "\
-usage: edv edit [--vouched] [--like FILE] [--at CHAIN] [--whole] [--backup SUFFIX] [--unchanged] [-n] [-s] [-p STRING] [-f SCRIPT] [FILE] <SCRIPT
+usage: edv edit [--vouched] [--like FILE] [--at CHAIN] [--whole] [--backup SUFFIX] [--unchanged] [-n] [--diff] [-s] [-p STRING] [-f SCRIPT] [FILE] <SCRIPT
        edv vouch [--like FILE] [--min N] [--max M] [--all] [-q] [--patterns] [--has RE] [--at CHAIN] [-f SCRIPT] [FILE] <SCRIPT
        edv explain [--like FILE] [--min N] [--max M] [--patterns] [--has RE] [--at CHAIN] [-f SCRIPT] [CERT] <SCRIPT
        edv check [-f SCRIPT] CERT <SCRIPT
-       edv run [--whole] [--backup SUFFIX] [-n] [-s] [-f SCRIPT] CERT [FILE] <SCRIPT
+       edv run [--whole] [--backup SUFFIX] [-n] [--diff] [-s] [-f SCRIPT] CERT [FILE] <SCRIPT
        edv fits CERT [FILE]
 ";
 
 pub const EDIT_USAGE: &str =
-    "usage: edv edit [--vouched] [--like FILE] [--at CHAIN] [--whole] [--backup SUFFIX] [--unchanged] [-n] [-s] [-p STRING] [-f SCRIPT] [FILE] <SCRIPT\n";
+    "usage: edv edit [--vouched] [--like FILE] [--at CHAIN] [--whole] [--backup SUFFIX] [--unchanged] [-n] [--diff] [-s] [-p STRING] [-f SCRIPT] [FILE] <SCRIPT\n";
 
 pub const VOUCH_USAGE: &str =
     "usage: edv vouch [--like FILE] [--min N] [--max M] [--all] [-q] [--patterns] [--has RE] [--at CHAIN] [-f SCRIPT] [FILE] <SCRIPT\n";
@@ -30,7 +30,7 @@ pub const EXPLAIN_USAGE: &str =
 pub const CHECK_USAGE: &str = "usage: edv check [-f SCRIPT] CERT <SCRIPT\n";
 
 pub const RUN_USAGE: &str =
-    "usage: edv run [--whole] [--backup SUFFIX] [-n] [-s] [-f SCRIPT] CERT [FILE] <SCRIPT\n";
+    "usage: edv run [--whole] [--backup SUFFIX] [-n] [--diff] [-s] [-f SCRIPT] CERT [FILE] <SCRIPT\n";
 
 pub const FITS_USAGE: &str = "usage: edv fits CERT [FILE]\n";
 
@@ -60,6 +60,8 @@ pub const HAS_NOWHERE: &str =
     "error: --has beside --max 0: a file of no lines has none that matches";
 
 pub const BACKUP_ALONE: &str = "error: --backup without --whole";
+
+pub const DIFF_ALONE: &str = "error: --diff without -n";
 
 pub const NO_SUFFIX: &str = "error: --backup with a suffix that is empty or has a slash";
 

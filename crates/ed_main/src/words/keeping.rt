@@ -4,7 +4,7 @@ ghost use Rattle.clap.specs.Words.{found_of, rows_of};
 ghost use Rattle.ed_main.specs.Words as meaning;
 ghost use Rattle.ed_main.specs.Words.{IsAsked};
 
-use crate::stderr::usage::{BACKUP_ALONE, NO_SUFFIX};
+use crate::stderr::usage::{BACKUP_ALONE, DIFF_ALONE, NO_SUFFIX};
 use crate::suffix::Suffix;
 use crate::words::WordsFault;
 use crate::words::texts::{is_given, text_of};
@@ -22,13 +22,24 @@ pub fn writing_in(alloc: Global, given: &ArgMatches<'_>, usage: &str) -> Result<
     let rehearsed = is_given(text_of(given, "rehearsed"));
     let whole = is_given(text_of(given, "whole"));
     let spares = is_given(text_of(given, "unchanged"));
+    let shows = is_given(text_of(given, "diff"));
     let suffix = text_of(given, "backup");
+    if !may_show(rehearsed, shows) {
+        return Err(WordsFault::of(alloc, DIFF_ALONE, usage));
+    }
     if !may_keep(whole, suffix) {
         let wrong = if whole { NO_SUFFIX } else { BACKUP_ALONE };
         return Err(WordsFault::of(alloc, wrong, usage));
     }
     let suffix = suffix_of(alloc, suffix)?;
-    Ok(Writing::of(rehearsed, whole, spares, suffix))
+    Ok(Writing::of(rehearsed, whole, spares, shows, suffix))
+}
+
+/// Whether what would change may be shown, if that is asked for: where a run is rehearsed.
+fn may_show(rehearsed: bool, shows: bool) -> bool
+    ensures value { result ≡ meaning.may_show rehearsed shows }
+{
+    rehearsed || !shows
 }
 
 /// Whether old files may be kept, if a suffix is given for them: where files are replaced whole, by one that leads to a name beside theirs.

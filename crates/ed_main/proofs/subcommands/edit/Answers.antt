@@ -23,7 +23,7 @@ subcommand-requires c =
                   c.unchanged.ensures.local,
                   (
                     c.rehearsed.ensures.local,
-                    (c.silent.ensures.local, (c.prompt.ensures.local, (c.script.ensures.local, (c.file.ensures.local, tt)))),
+                    (c.diff.ensures.local, (c.silent.ensures.local, (c.prompt.ensures.local, (c.script.ensures.local, (c.file.ensures.local, tt))))),
                   ),
                 ),
               ),
@@ -37,5 +37,5 @@ pub returns-clause-value : goal.returns-clause-value
 returns-clause-value c =
     IfOk-weaker c.subcommand.result _ _ (λ command is. is ∙ ap (meaning.subcommand (codes "edit")) (ap (map rule_of) c.in_ok-vec.ensures.items
     ∙ and_rules c.vouched.ensures.value (and_rules c.like.ensures.value (and_rules c.at.ensures.value (and_rules c.whole.ensures.value
-    (and_rules c.backup.ensures.value (and_rules c.unchanged.ensures.value (and_rules c.rehearsed.ensures.value (and_rules c.silent.ensures.value (and_rules c.prompt.ensures.value (and_rules
-    c.script.ensures.value (and_rules c.file.ensures.value no_rules)))))))))))) c.subcommand.ensures.value
+    (and_rules c.backup.ensures.value (and_rules c.unchanged.ensures.value (and_rules c.rehearsed.ensures.value (and_rules c.diff.ensures.value (and_rules c.silent.ensures.value (and_rules c.prompt.ensures.value (and_rules
+    c.script.ensures.value (and_rules c.file.ensures.value no_rules))))))))))))) c.subcommand.ensures.value

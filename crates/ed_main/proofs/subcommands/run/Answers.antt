@@ -16,12 +16,15 @@ subcommand-requires c =
           (
             c.rehearsed.ensures.local,
             (
-              c.silent.ensures.local,
+              c.diff.ensures.local,
               (
-                c.script.ensures.local,
+                c.silent.ensures.local,
                 (
-                  c.certificate.ensures.local,
-                  (c.file.ensures.local, tt),
+                  c.script.ensures.local,
+                  (
+                    c.certificate.ensures.local,
+                    (c.file.ensures.local, tt),
+                  ),
                 ),
               ),
             ),
@@ -33,5 +36,5 @@ subcommand-requires c =
 pub returns-clause-value : goal.returns-clause-value
 returns-clause-value c =
     IfOk-weaker c.subcommand.result _ _ (λ command is. is ∙ ap (meaning.subcommand (codes "run")) (ap (map rule_of) c.in_ok-vec.ensures.items
-    ∙ and_rules c.whole.ensures.value (and_rules c.backup.ensures.value (and_rules c.rehearsed.ensures.value (and_rules c.silent.ensures.value (and_rules c.script.ensures.value (and_rules
-    c.certificate.ensures.value (and_rules c.file.ensures.value no_rules)))))))) c.subcommand.ensures.value
+    ∙ and_rules c.whole.ensures.value (and_rules c.backup.ensures.value (and_rules c.rehearsed.ensures.value (and_rules c.diff.ensures.value (and_rules c.silent.ensures.value (and_rules c.script.ensures.value (and_rules
+    c.certificate.ensures.value (and_rules c.file.ensures.value no_rules))))))))) c.subcommand.ensures.value
