@@ -49,11 +49,13 @@ install:
 	done
 	install -D -m 644 packaging/completions/edv.bash "$(ROOT)/share/bash-completion/completions/edv"
 	install -D -m 644 packaging/completions/_edv "$(ROOT)/share/zsh/site-functions/_edv"
+	install -D -m 644 packaging/completions/edv.fish "$(ROOT)/share/fish/vendor_completions.d/edv.fish"
 
 # Takes away what `make install` put there, and no folder that others may use.
 uninstall:
 	rm -f "$(DESTDIR)$(bindir)/edv" "$(DESTDIR)$(bindir)/ed_main" "$(ROOT)/share/man/man1/edv.1" \
-	  "$(ROOT)/share/bash-completion/completions/edv" "$(ROOT)/share/zsh/site-functions/_edv"
+	  "$(ROOT)/share/bash-completion/completions/edv" "$(ROOT)/share/zsh/site-functions/_edv" \
+	  "$(ROOT)/share/fish/vendor_completions.d/edv.fish"
 	rm -rf "$(ROOT)/libexec/edv" "$(ROOT)/share/doc/edv"
 
 check:
