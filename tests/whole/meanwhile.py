@@ -36,6 +36,7 @@ def replace(path):
 # What others do to a file after it was read, and the file that it is: its bytes stay the same in some of them.
 CHANGES = {
     'it grows': ('F', append),
+    'it is emptied': ('F', lambda path: write(path, b'')),
     'a file with the same bytes takes its place': ('F', replace),
     'other bytes of the same number': ('F', lambda path: write(path, b'c\nd\n')),
     'it is gone': ('F', os.remove),

@@ -13,4 +13,5 @@ mod RunningLists
 mod Causes
 mod Rounds
 mod Refusing
+mod FoundLemmas
 pub mod Overwritten

@@ -6,6 +6,8 @@ pub mod Drives
 pub mod Seen
 pub mod Work
 pub mod Stamps
+pub mod FoundFiles
+pub mod Folders
 -- the tools for runs in memory
 pub mod MemFiles
 pub mod MemSinks

@@ -1,9 +1,10 @@
 //! Files on a disk, whose calls are logged.
-ghost use Rattle.std.specs.Prelude.{◌≡◌, ◌≢◌, ◌≤◌, ◌⊎◌, [], None, length, is_some, IfOk, OnOk};
+ghost use Rattle.std.specs.Prelude.{◌≡◌, ◌≢◌, ◌≤◌, ◌⊎◌, [], None, true, false, length, is_some, IfOk, OnOk};
 ghost use Rattle.std.specs.Io.KnownBytes.{Consumes};
 ghost use Rattle.ed_syntax.specs.declared.request.Answer.TheVariants as answer;
 ghost use Rattle.ed_session.specs.Drives.{ends_refused, is_refusal};
 ghost use Rattle.ed_session.specs.Seen.{log_seen};
+ghost use Rattle.ed_session.specs.FoundFiles.{found_at};
 
 use crate::Outside;
 use crate::chunks::ROOM;
@@ -51,6 +52,8 @@ impl<R: Files<File = File> + Drop> DiskFiles<R> {
     pub fn new(alloc: Global, files: R) -> Self
         ensures log { log_seen result.log.items ≡ [] }
         ensures count { result.failures ≡ 0 }
+        ensures found { result.found.found.items ≡ [] }
+        ensures spares { result.found.spares ≡ false }
     {
         DiskFiles::with(alloc, files, FoundFiles::new(alloc, false))
     }
@@ -59,6 +62,8 @@ impl<R: Files<File = File> + Drop> DiskFiles<R> {
     pub fn sparing(alloc: Global, files: R) -> Self
         ensures log { log_seen result.log.items ≡ [] }
         ensures count { result.failures ≡ 0 }
+        ensures found { result.found.found.items ≡ [] }
+        ensures spares { result.found.spares ≡ true }
     {
         DiskFiles::with(alloc, files, FoundFiles::new(alloc, true))
     }
@@ -66,6 +71,7 @@ impl<R: Files<File = File> + Drop> DiskFiles<R> {
     fn with(alloc: Global, files: R, found: FoundFiles) -> Self
         ensures log { log_seen result.log.items ≡ [] }
         ensures count { result.failures ≡ 0 }
+        ensures found { result.found ≡ found }
     {
         DiskFiles {
             alloc,
@@ -86,7 +92,9 @@ impl<R: Files<File = File> + Drop> DiskFiles<R> {
     }
 
     /// What was found at a path when it was read first: a plain file, or nothing. None if it wasn't read so far, or is no plain file.
-    pub fn found_at(&self, path: &[u8]) -> Option<Option<FileStamp>> {
+    pub fn found_at(&self, path: &[u8]) -> Option<Option<FileStamp>>
+        ensures value { result ≡ found_at path.now self.now.found.found.items }
+    {
         self.found.at(path)
     }
 }

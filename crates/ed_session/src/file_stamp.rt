@@ -1,6 +1,7 @@
 //! What tells whether a file on a disk is as it was when a run read it.
 ghost use Rattle.std.specs.Prelude.{◌≡◌, ◌↔◌, IsTrue};
-ghost use Rattle.ed_session.specs.Stamps.{IsOneFile, IsStill};
+ghost use Rattle.std.specs.Fs.{metadata_len};
+ghost use Rattle.ed_session.specs.Stamps.{IsOneFile, IsStill, IsTold, IsToldOrNow};
 
 use std::fs::{File, Metadata, TryLockError};
 use std::os::unix::fs::MetadataExt;
@@ -28,7 +29,10 @@ enum Time {
 
 impl FileStamp {
     /// What the system tells of a file.
-    pub fn of(found: &Metadata) -> FileStamp {
+    pub fn of(found: &Metadata) -> FileStamp
+        ensures size { result.size ≡ metadata_len found.now }
+        ensures told { IsTold result.time }
+    {
         FileStamp {
             device: found.dev(),
             number: found.ino(),
@@ -39,7 +43,10 @@ impl FileStamp {
 
     /// What the system has told of an open file that is to be read. If another process has locked it, as a run has that writes it, it may be
     /// changed at this moment. Whatever is written after this changes its time.
-    pub(crate) fn of_opened(file: &File, told: &Metadata) -> FileStamp {
+    pub(crate) fn of_opened(file: &File, told: &Metadata) -> FileStamp
+        ensures size { result.size ≡ metadata_len told.now }
+        ensures told { IsToldOrNow result.time }
+    {
         let mut stamp = FileStamp::of(told);
         match file.try_lock_shared() {
             Ok(()) => {
@@ -52,7 +59,9 @@ impl FileStamp {
     }
 
     /// The same file, given so many bytes at a time that wasn't asked for.
-    pub(crate) fn rewritten(self, size: u64) -> FileStamp {
+    pub(crate) fn rewritten(self, size: u64) -> FileStamp
+        ensures value { result ≡ record self { size = size; time = Time.Own } }
+    {
         FileStamp {
             size,
             time: Time::Own,

@@ -78,7 +78,7 @@ pub(crate) fn give_bytes<R: Files<File = File>>(
     if is_locked {
         return Err(refusal("locked by another process"));
     }
-    if told.nlink() == 0 || !found.allow(path.as_bytes(), &now) {
+    if told.nlink() == 0 || !found.allow(path.as_bytes(), &now, is_new) {
         return Err(refusal("changed since it was read"));
     }
     let mut file = OpenedFile::new(file);

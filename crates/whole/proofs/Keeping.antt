@@ -10,9 +10,9 @@ use Rattle.ed_syntax.specs.declared.request.Request.{Request}
 use Rattle.ed_syntax.specs.declared.request.Request.TheVariants as request
 use Rattle.ed_session.specs.Drives.{Log, is_refusal}
 use Rattle.whole.specs.Deeds.{Deed, NothingPut, entry_of, holds_back, refusals, run_log}
-use Rattle.whole.specs.Paths.{each_once, is_in, write_path, write_paths, written_paths}
+use Rattle.whole.specs.Paths.{each_once, is_in, more_paths, write_path, write_paths, written_paths}
 use Rattle.whole.specs.Reads.{ReadsHeld, read_of, reads_held}
-use Rattle.whole.specs.Insides.{IsWhole, more_paths}
+use Rattle.whole.specs.Insides.{IsWhole}
 use Rattle.whole.proofs.PathLemmas.{each_once-more, in-each_once}
 use Rattle.whole.proofs.DeedLemmas.{Holding, not-so, one-more}
 

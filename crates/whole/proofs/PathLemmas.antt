@@ -7,8 +7,7 @@ use Rattle.ed_session.specs.Drives.{Log}
 use Rattle.ed_session.specs.KeptAnswers.{Files}
 use Rattle.ed_session.specs.MemFiles.{file_at}
 use Rattle.rehearsal.specs.Rehearsals.{files_after, files_at_end}
-use Rattle.whole.specs.Paths.{each_once, is_in, without, write_path, write_paths}
-use Rattle.whole.specs.Insides.{more_paths}
+use Rattle.whole.specs.Paths.{each_once, is_in, more_paths, without, write_path, write_paths}
 
 pub at-true : {A : Type 0} (test : Bool) (x y : A) → test ≡ true → (elim test [ true ↦ x | false ↦ y ]) ≡ x
 at-true test x y e = subst (λ b. (elim b [ true ↦ x | false ↦ y ]) ≡ x) (sym e) refl

@@ -9,11 +9,6 @@ use Rattle.whole.specs.declared.file_identity.FileIdentity.{FileIdentity}
 use Rattle.whole.specs.declared.outcome.Outcome.{Outcome}
 use Rattle.whole.specs.declared.outcome.Outcome.TheVariants as outcome
 
--- these paths with one more, unless it is one of them
-abbrev pub more_paths : (known : Bool) → List (List ℕ) → List ℕ → List (List ℕ)
-more_paths true paths path = paths
-more_paths false paths path = paths ++ path ∷ []
-
 -- Writes that are held back: the paths that were written, whether a request was refused, and room in the log to end the run, with four
 -- calls for each path.
 pub record IsWhole (deeds : List Deed) (room : ℕ) (paths : List (List ℕ)) (refused : Bool) : Type 0 where

@@ -1,5 +1,5 @@
 -- The paths that a run writes, each once (our choice: two paths are one where they are the same bytes).
-use Rattle.std.specs.Prelude.{ℕ, Bool, true, false, ◌||◌, List, [], ◌∷◌, flat_map, nat_eq}
+use Rattle.std.specs.Prelude.{ℕ, Bool, true, false, ◌||◌, List, [], ◌∷◌, ◌++◌, flat_map, nat_eq}
 use Rattle.std.specs.Cmp.Lexicographic.{pointwise}
 use Rattle.ed_syntax.specs.declared.request.Answer.{Answer}
 use Rattle.ed_syntax.specs.declared.request.Request.{Request}
@@ -20,6 +20,11 @@ write_paths log = flat_map (λ (entry : Request × Answer). write_path entry.0) 
 abbrev pub is_in : List ℕ → List (List ℕ) → Bool
 is_in path [] = false
 is_in path (first ∷ paths) = pointwise nat_eq first path || is_in path paths
+
+-- these paths with one more, unless it is one of them
+abbrev pub more_paths : (known : Bool) → List (List ℕ) → List ℕ → List (List ℕ)
+more_paths true paths path = paths
+more_paths false paths path = paths ++ path ∷ []
 
 -- these paths, without this one
 abbrev pub without : List ℕ → List (List ℕ) → List (List ℕ)

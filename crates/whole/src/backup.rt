@@ -1,5 +1,5 @@
 //! The backup of a file that is to be replaced: a name under which the old file stays.
-ghost use Rattle.std.specs.Prelude.{◌≢◌, Some, IsFalse};
+ghost use Rattle.std.specs.Prelude.{◌≡◌, ◌≢◌, ◌++◌, [], Some, string_bytes, IfOk, IsFalse, OnOk};
 ghost use Rattle.whole.specs.OneFile.{backup_file};
 
 use crate::draft_names::name_beside;
@@ -31,11 +31,16 @@ pub(crate) fn is_backup(backup: &Option<Backup>, file: &FileIdentity) -> bool
 }
 
 /// The name of the backup of a path.
-pub(crate) fn backup_name(alloc: Global, path: &str, suffix: &str) -> io::Result<String> {
+pub(crate) fn backup_name(alloc: Global, path: &str, suffix: &str) -> io::Result<String>
+    ensures value { IfOk result (λ name. string_bytes name ≡ path.now ++ suffix.now) }
+    ensures some { OnOk result (suffix.now ≢ []) }
+{
     if suffix.is_empty() || suffix.contains('/') {
         return Err(refusal("no suffix for a backup"));
     }
-    Ok(format!(in alloc; "{path}{suffix}")?)
+    let mut name = String::from_str(alloc, path)?;
+    name.push_str(suffix)?;
+    Ok(name)
 }
 
 impl Backup {
@@ -46,7 +51,9 @@ impl Backup {
         path: &str,
         name: String,
         number: u32,
-    ) -> io::Result<Backup> {
+    ) -> io::Result<Backup>
+        ensures name { IfOk result (λ backup. backup.name ≡ name) }
+    {
         let found = plain_file(files, name.as_str(), Some(path))?;
         Ok(Backup {
             link: name_beside(alloc, path, number)?,

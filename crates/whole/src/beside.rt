@@ -1,6 +1,7 @@
 //! A draft beside a path. It is written, synced and given its mode and owner by the descriptor of the one open that made it: what stands
 //! at its name is looked at before it is renamed or removed, and not touched before that.
-ghost use Rattle.std.specs.Prelude.{◌≡◌, ◌≢◌, Some, IfOk, IsFalse};
+ghost use Rattle.std.specs.Prelude.{◌≡◌, ◌≢◌, Some, IfOk, OnOk, IsFalse};
+ghost use Rattle.ed_session.specs.Stamps.{IsAsRead};
 ghost use Rattle.whole.specs.OneFile.{backup_file};
 
 use crate::backup::{Backup, is_backup};
@@ -8,7 +9,7 @@ use crate::draft_names::make_draft;
 use crate::file_identity::FileIdentity;
 use crate::from_front::{FromFront, are_same};
 use crate::plain_files::{hold, is_at, is_other_at, plain_file, refusal};
-use crate::planned::Planned;
+use crate::planned::{Planned, is_as_read};
 use crate::taken::Takes;
 use ed_base::{Bytes, Pieces};
 use ed_session::FileStamp;
@@ -34,7 +35,8 @@ pub(crate) struct Beside {
     pub(crate) file: FileIdentity,
     pub(crate) draft: FileIdentity,
     made: File,
-    // None where nothing stood at the path.
+    // What stood at the path then, and that file itself: none where nothing did.
+    was: Option<FileStamp>,
     old: Option<Old>,
     backup: Option<Backup>,
     // How many bytes the draft was given last, and whether the file has just these.
@@ -59,12 +61,17 @@ impl Beside {
         read: Option<Option<FileStamp>>,
     ) -> io::Result<Beside>
         ensures file { IfOk result (λ made. made.file ≡ planned.file) }
+        ensures path { IfOk result (λ made. made.path ≡ planned.path) }
+        ensures backup { IfOk result (λ made. made.backup ≡ planned.backup) }
+        ensures was { IfOk result (λ made. made.was ≡ planned.stamp) }
+        ensures as_read { OnOk result (IsAsRead read planned.stamp) }
     {
         let is_as_read = planned.is_as(read);
         let Planned {
             path,
             file,
             found,
+            stamp,
             number,
             backup,
         } = planned;
@@ -85,6 +92,7 @@ impl Beside {
             file,
             draft: FileIdentity::of(&told),
             made,
+            was: stamp,
             old,
             backup,
             size: Cell::new(0),
@@ -139,12 +147,15 @@ impl Beside {
     fn is_unchanged<R: Files>(&self, files: &R) -> io::Result<()> {
         let backup = self.backup.as_ref().map(Backup::name);
         let now = plain_file(files, self.path.as_str(), backup)?;
-        let is_still = match (&self.old, &now) {
-            (Some(old), Some(now)) => are_alike(&old.found, now),
-            (None, None) => true,
-            _ => false,
+        let has_rights = match (&self.old, &now) {
+            (Some(old), Some(now)) => has_same_rights(&old.found, now),
+            _ => true,
         };
-        if is_still { Ok(()) } else { Err(changed()) }
+        if has_rights && is_as_read(Some(self.was), now.as_ref().map(FileStamp::of)) {
+            Ok(())
+        } else {
+            Err(changed())
+        }
     }
 
     /// Whether the file that is to be replaced has the bytes of the draft already.
@@ -248,12 +259,10 @@ impl Takes for Beside {
     }
 }
 
-/// Whether a file that was so and is so now is the same, with the same bytes, as far as these tell, and has the mode and the owner that its draft
-/// is given.
-fn are_alike(found: &Metadata, now: &Metadata) -> bool {
+/// Whether a file that was so and is so now has the mode and the owner that its draft is given.
+fn has_same_rights(found: &Metadata, now: &Metadata) -> bool {
     let same_owner = found.uid() == now.uid() && found.gid() == now.gid();
-    let same_rights = same_owner && found.mode() == now.mode();
-    same_rights && FileStamp::of(found).is_still(&FileStamp::of(now))
+    same_owner && found.mode() == now.mode()
 }
 
 /// Why a file isn't replaced at whose draft's name something else is.

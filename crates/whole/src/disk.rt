@@ -1,8 +1,9 @@
 //! Files on a disk and the drafts beside them, found by their paths. What the system does, no clause knows.
-ghost use Rattle.std.specs.Prelude.{◌≡◌, ◌≢◌, ◌<◌, ◌⊎◌, ◌∷◌, ◌++◌, [], None, All, true, not, is_some, vec_len, vec_capacity, IfOk, OnErr};
+ghost use Rattle.std.specs.Prelude.{◌≡◌, ◌≢◌, ◌<◌, ◌⊎◌, ◌∷◌, ◌++◌, [], None, All, true, not, is_some, option_map, string_bytes, vec_len, vec_capacity, IfOk, OnErr};
 ghost use Rattle.ed_syntax.specs.declared.request.Answer.TheVariants as answer;
 ghost use Rattle.ed_session.specs.Drives.{is_refusal};
-ghost use Rattle.whole.specs.OneFile.{AreDifferent, files_of};
+ghost use Rattle.ed_session.specs.Stamps.{IsAsRead};
+ghost use Rattle.whole.specs.OneFile.{AreDifferent, backup_path, files_of};
 ghost use Rattle.whole.specs.Insides.{AreDifferent-prop};
 
 use crate::beside::Beside;
@@ -38,6 +39,7 @@ pub(crate) struct Disk<R: Files<File = File> + Copy + Drop> {
 impl<R: Files<File = File> + Copy + Drop> Disk<R> {
     pub(crate) fn new(alloc: Global, system: R, suffix: Option<String>) -> Self
         ensures no_reason { result.reason ≡ None }
+        ensures suffix { result.suffix ≡ suffix }
     {
         Disk {
             alloc,
@@ -249,6 +251,9 @@ fn draft_of<R: Files<File = File>>(
     suffix: Option<&str>,
 ) -> io::Result<Beside>
     ensures other { IfOk result (λ made. All (λ other. other.file ≢ made.file) drafts.now) }
+    ensures path { IfOk result (λ made. string_bytes made.path ≡ path.now) }
+    ensures as_read { IfOk result (λ made. IsAsRead read made.was) }
+    ensures backup { IfOk result (λ made. backup_path made.backup ≡ option_map (λ suffix. path.now ++ suffix.now) suffix.entry) }
 {
     let Ok(path) = str::from_utf8(path) else {
         return Err(refusal("a name that isn't UTF-8"));

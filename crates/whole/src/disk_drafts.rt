@@ -1,5 +1,5 @@
 //! Drafts beside files on a disk, whose calls are logged.
-ghost use Rattle.std.specs.Prelude.{◌≡◌, [], is_some};
+ghost use Rattle.std.specs.Prelude.{◌≡◌, [], None, Some, is_some};
 ghost use Rattle.whole.specs.Reasons.{last_refused};
 ghost use Rattle.whole.specs.SeenDeeds.{deeds_seen};
 ghost use Rattle.whole.specs.OneFile.{AreDifferent, files_of};
@@ -37,6 +37,7 @@ impl<R: Files<File = File> + Copy + Drop> DiskDrafts<R> {
     /// The files of this system, without drafts. It takes no memory.
     pub fn new(alloc: Global, system: R) -> Self
         ensures log { deeds_seen result.log.deeds.items ≡ [] }
+        ensures suffix { result.disk.suffix ≡ None }
     {
         DiskDrafts {
             disk: Disk::new(alloc, system, None),
@@ -48,6 +49,7 @@ impl<R: Files<File = File> + Copy + Drop> DiskDrafts<R> {
     /// has that name. The name of a file that was written, or was to be its backup, is refused.
     pub fn with_backups(alloc: Global, system: R, suffix: String) -> Self
         ensures log { deeds_seen result.log.deeds.items ≡ [] }
+        ensures suffix { result.disk.suffix ≡ Some suffix }
     {
         DiskDrafts {
             disk: Disk::new(alloc, system, Some(suffix)),

@@ -1,6 +1,7 @@
 //! A look at the paths that a run is to replace whole, by which nothing is made or changed.
-ghost use Rattle.std.specs.Prelude.{◌≡◌, ◌≢◌, All, [], IfOk};
-ghost use Rattle.whole.specs.OneFile.{AreDifferent, planned_files};
+ghost use Rattle.std.specs.Prelude.{◌≡◌, ◌≢◌, ◌++◌, All, [], option_map, string_bytes, IfOk, OnOk, OnErr};
+ghost use Rattle.whole.specs.OneFile.{AreDifferent, backup_path, planned_files, planned_paths};
+ghost use Rattle.whole.specs.Paths.{is_in, more_paths};
 ghost use Rattle.whole.specs.Insides.{AreDifferent-prop};
 
 use crate::plain_files::{hold, refusal};
@@ -25,7 +26,8 @@ pub struct Lookahead {
 impl Lookahead {
     /// No path so far. The old files are to be kept under their names with this suffix, if there is one.
     pub fn new(alloc: Global, suffix: Option<String>) -> Self
-        ensures none { planned_files result.planned.items ≡ [] }
+        ensures none { planned_paths result.planned.items ≡ [] }
+        ensures suffix { result.suffix ≡ suffix }
     {
         Lookahead {
             alloc,
@@ -38,15 +40,15 @@ impl Lookahead {
     /// be opened to be written and isn't locked, or nothing, in a folder that is there; what has the name of its backup is a plain file with one
     /// link, or nothing; and neither is one that is to be replaced at another path. That the folder lets drafts be made, and that they can be
     /// given the owner of the file, isn't looked at.
-    pub fn look<R: Files<File = File>>(&mut self, files: &R, path: &[u8]) -> io::Result<()> {
+    pub fn look<R: Files<File = File>>(&mut self, files: &R, path: &[u8]) -> io::Result<()>
+        ensures added { OnOk result (planned_paths self.new.planned.items
+            ≡ more_paths (is_in path.now (planned_paths self.old.planned.items)) (planned_paths self.old.planned.items) path.now) }
+        ensures unchanged { OnErr result (self.new.planned.items ≡ self.old.planned.items) }
+    {
         let Ok(path) = str::from_utf8(path) else {
             return Err(refusal("a name that isn't UTF-8"));
         };
-        if self
-            .planned
-            .iter()
-            .any(|planned| planned.path.as_str() == path)
-        {
+        if is_planned(self.planned.as_slice(), path.as_bytes()) {
             return Ok(());
         }
         self.planned.reserve(1)?;
@@ -62,6 +64,18 @@ impl Lookahead {
     {}
 }
 
+/// Whether a path is one of these.
+fn is_planned(planned: &[Planned], path: &[u8]) -> bool
+    ensures value { result ≡ is_in path.now (planned_paths planned.now) }
+{
+    'planned: for one in planned {
+        if one.path.as_bytes() == path {
+            return true;
+        }
+    }
+    false
+}
+
 /// A path that could be replaced after these.
 fn plan<R: Files<File = File>>(
     alloc: Global,
@@ -71,6 +85,8 @@ fn plan<R: Files<File = File>>(
     suffix: Option<&str>,
 ) -> io::Result<Planned>
     ensures other { IfOk result (λ planned. All (λ other. other.file ≢ planned.file) before.now) }
+    ensures path { IfOk result (λ planned. string_bytes planned.path ≡ path.now) }
+    ensures backup { IfOk result (λ planned. backup_path planned.backup ≡ option_map (λ suffix. path.now ++ suffix.now) suffix.entry) }
 {
     // No draft is made, so it has no number.
     let planned = Planned::of(alloc, files, path, 0, suffix)?;

@@ -1,4 +1,6 @@
 //! The drafts that a run has made, found by a path or by a file.
+ghost use Rattle.std.specs.Prelude.{◌≡◌, option_map};
+ghost use Rattle.whole.specs.OneFile.{draft_at};
 
 use crate::beside::Beside;
 use crate::plain_files::file_to_read;
@@ -31,7 +33,9 @@ pub(crate) fn is_drafted<R: Files>(
 }
 
 /// The draft of a path, if one was made.
-pub(crate) fn find<'a>(drafts: &'a [Beside], path: &[u8]) -> Option<&'a Beside> {
+pub(crate) fn find<'a>(drafts: &'a [Beside], path: &[u8]) -> Option<&'a Beside>
+    ensures value { option_map (λ draft. draft.now) result ≡ draft_at path.now drafts.now }
+{
     'drafts: for draft in drafts {
         if draft.path.as_bytes() == path {
             return Some(draft);

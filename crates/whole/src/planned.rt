@@ -1,7 +1,7 @@
 //! A path that is to be replaced.
-ghost use Rattle.std.specs.Prelude.{◌≢◌, ◌↔◌, Some, IsFalse, IsTrue};
+ghost use Rattle.std.specs.Prelude.{◌≡◌, ◌≢◌, ◌↔◌, ◌++◌, Some, option_map, string_bytes, IfOk, IsFalse, IsTrue};
 ghost use Rattle.ed_session.specs.Stamps.{IsAsRead};
-ghost use Rattle.whole.specs.OneFile.{backup_file};
+ghost use Rattle.whole.specs.OneFile.{backup_file, backup_path};
 
 use crate::backup::{Backup, backup_name, is_backup};
 use crate::file_identity::FileIdentity;
@@ -20,6 +20,7 @@ pub(crate) struct Planned {
     /// Which file is there, or would be, and what the system tells of it, if it is there.
     pub(crate) file: FileIdentity,
     pub(crate) found: Option<Metadata>,
+    pub(crate) stamp: Option<FileStamp>,
     /// A number with which no draft beside it is named, as far as was seen.
     pub(crate) number: u32,
     pub(crate) backup: Option<Backup>,
@@ -33,7 +34,10 @@ impl Planned {
         path: &str,
         number: u32,
         suffix: Option<&str>,
-    ) -> io::Result<Planned> {
+    ) -> io::Result<Planned>
+        ensures path { IfOk result (λ planned. string_bytes planned.path ≡ path.now) }
+        ensures backup { IfOk result (λ planned. backup_path planned.backup ≡ option_map (λ suffix. path.now ++ suffix.now) suffix.entry) }
+    {
         last_name(path)?;
         let backup = match suffix {
             Some(suffix) => Some(backup_name(alloc, path, suffix)?),
@@ -51,6 +55,7 @@ impl Planned {
         Ok(Planned {
             path: String::from_str(alloc, path)?,
             file,
+            stamp: found.as_ref().map(FileStamp::of),
             found,
             number,
             backup,
@@ -58,13 +63,15 @@ impl Planned {
     }
 
     /// Whether what stands at the path is what was found there when it was read, if it was read.
-    pub(crate) fn is_as(&self, read: Option<Option<FileStamp>>) -> bool {
-        is_as_read(read, self.found.as_ref().map(FileStamp::of))
+    pub(crate) fn is_as(&self, read: Option<Option<FileStamp>>) -> bool
+        ensures exact { IsTrue result ↔ IsAsRead read self.now.stamp }
+    {
+        is_as_read(read, self.stamp)
     }
 }
 
 /// Whether what stands at a path now, a file or nothing, is what was found there when it was read, if it was read.
-fn is_as_read(read: Option<Option<FileStamp>>, now: Option<FileStamp>) -> bool
+pub(crate) fn is_as_read(read: Option<Option<FileStamp>>, now: Option<FileStamp>) -> bool
     ensures exact { IsTrue result ↔ IsAsRead read now }
 {
     match (read, now) {

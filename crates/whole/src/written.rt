@@ -1,8 +1,7 @@
 //! The paths that a run has written.
 ghost use Rattle.std.specs.Prelude.{◌≡◌, ◌<◌, ◌||◌, vec_len, vec_capacity};
 ghost use Rattle.ed_session.specs.Drives.{is_refusal};
-ghost use Rattle.whole.specs.Paths.{is_in};
-ghost use Rattle.whole.specs.Insides.{more_paths};
+ghost use Rattle.whole.specs.Paths.{is_in, more_paths};
 
 use ed_base::Bytes;
 use ed_syntax::Answer;

@@ -10,6 +10,6 @@ invariant_of-self-2 g c =
     let same = c.in_ok-reserve.ensures.items in
     record {
       different = different-after (λ (one : Planned). one.file) _ _ _ planned c.args.self.now.different
-          (subst (All (λ (other : Planned). other.file ≢ planned.file)) (c.as_slice.ensures.value ∙ same) c.in_ok-planned.ensures.other) same
+          (subst (All (λ (other : Planned). other.file ≢ planned.file)) (c.as_slice-2.ensures.value ∙ same) c.in_ok-planned.ensures.other) same
           c.push_reserved.ensures.items;
     }

@@ -1,6 +1,5 @@
 use Rattle.std.proofs.Common.{◌≡◌, ◌∙◌, ap}
-use Rattle.whole.specs.Paths.{is_in}
-use Rattle.whole.specs.Insides.{more_paths}
+use Rattle.whole.specs.Paths.{is_in, more_paths}
 use Rattle.whole.proofs.Keeping.{goes-on-write}
 use Rattle.whole.proofs.whole.WholeOutside.write.Goals as goal
 
