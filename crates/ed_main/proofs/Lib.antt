@@ -1,4 +1,6 @@
 mod ChainLemmas
+mod Differing
+mod FirstPaths
 mod GivenPatterns
 mod Holding
 mod Made

@@ -1,16 +1,22 @@
-//! What a rehearsal would have changed in each file, as `diff -u` writes it, in colours on a terminal. What the files of the system have, no clause knows.
+//! What a rehearsal would have changed in each file, as `diff -u` writes it, in colours on a terminal.
+ghost use Rattle.std.specs.Prelude.{◌≡◌, ◌<◌, ◌-◌, ◌^◌, IfOk, OnOk};
+ghost use Rattle.rehearsal.specs.Held.{writes_of};
+ghost use Rattle.rehearsal.specs.Rehearsals.{written};
+ghost use Rattle.ed_session.specs.MemFiles.{log_of};
+ghost use Rattle.ed_session.specs.Sinks.{change};
+ghost use Rattle.ed_main.specs.Diffs.{GoesOn, IsChange, IsFound, ShowsFile, ShowsFiles, first_paths};
 
 use crate::screen::Screen;
 use ed_base::{Bytes, Fault};
 use ed_calls::{show_memory, show_output};
-use ed_session::{DiskFiles, Outside};
+use ed_session::{DiskFiles, Out, Outside, Sink, give};
 use ed_syntax::Answer;
 use rehearsal::{HeldWrite, Rehearsal};
 use std::alloc::{AllocError, Global};
 use std::collections::HashSet;
-use std::fs;
 use std::fs::File;
 use std::rt::Files;
+use std::{fs, io};
 use unified_diff::write_unified;
 
 /// What stands for a file that isn't there.
@@ -23,7 +29,9 @@ where
     R: Files<File = File> + Print + Eprint + AllocGlobal + Screen,
     O: Outside + Drop,
 {
-    match write_diffs(rt, rehearsal) {
+    let mut real = DiskFiles::new(rt.alloc(), rt);
+    let mut output = Out::new(io::writer(rt));
+    match write_diffs(rt, rt.is_screen(), rehearsal, &mut real, &mut output) {
         Ok(()) => true,
         Err(fault) => {
             show_output(rt, fault.status());
@@ -33,24 +41,38 @@ where
     }
 }
 
-/// Writes the diffs up to the first one that can't be written.
-fn write_diffs<R, O>(rt: &R, rehearsal: &mut Rehearsal<O>) -> Result<(), Fault>
+/// Writes the diffs, by what the real files answer, up to the first one that can't be written.
+fn write_diffs<R, O, P, W>(
+    rt: &R,
+    colours: bool,
+    rehearsal: &mut Rehearsal<O>,
+    real: &mut P,
+    sink: &mut W,
+) -> Result<(), Fault>
 where
-    R: Files<File = File> + Print + AllocGlobal + Screen,
+    R: Files<File = File> + AllocGlobal,
     O: Outside + Drop,
+    P: Outside,
+    W: Sink,
+    requires count { (W.state sink.old).failures < 2 ^ 64 - 1 }
+    ensures shown { OnOk result (ShowsFiles colours (written (log_of rehearsal.old.files)) (P.log real.new)
+        (first_paths (writes_of (log_of rehearsal.old.files))) (change (W.state sink.old) (W.state sink.new))) }
 {
-    let paths = written_paths(rt.alloc(), rehearsal.writes())?;
-    for path in paths.as_slice() {
-        let diff = diff_of(rt, rehearsal, path)?;
-        if rt.write_all(diff.as_slice()).is_err() {
+    let written = written_paths(rt.alloc(), rehearsal.writes())?;
+    let paths = written.as_slice();
+    for path in paths {
+        let diff = diff_at(rt, colours, rehearsal, real, path.as_slice())?;
+        if !give(sink, diff.as_slice()) {
             return Err(Fault::Output);
         }
     }
     Ok(())
 }
 
-/// The paths of these writes in their order, each once.
-fn written_paths(alloc: Global, writes: &[HeldWrite]) -> Result<Vec<Bytes>, AllocError> {
+/// The paths of these writes, each once, in the order of the first writes to them.
+fn written_paths(alloc: Global, writes: &[HeldWrite]) -> Result<Vec<Bytes>, AllocError>
+    ensures value { IfOk result (λ paths. paths.items ≡ first_paths writes.now) }
+{
     let mut seen = HashSet::new(alloc);
     let mut paths = Vec::new(alloc);
     for write in writes {
@@ -61,46 +83,70 @@ fn written_paths(alloc: Global, writes: &[HeldWrite]) -> Result<Vec<Bytes>, Allo
     Ok(paths)
 }
 
-/// The diff of the file at a path that is written in a rehearsal; nothing of what is no plain file.
-fn diff_of<R, O>(rt: &R, rehearsal: &mut Rehearsal<O>, path: &Bytes) -> Result<Bytes, AllocError>
+/// The diff of the file at a path that is written in a rehearsal, by what the real files answer.
+fn diff_at<R, O, P>(
+    rt: &R,
+    colours: bool,
+    rehearsal: &mut Rehearsal<O>,
+    real: &mut P,
+    path: &[u8],
+) -> Result<Bytes, AllocError>
 where
-    R: Files<File = File> + AllocGlobal + Screen,
+    R: Files<File = File> + AllocGlobal,
     O: Outside + Drop,
+    P: Outside,
+    ensures shown { IfOk result (λ diff. ShowsFile colours (written (log_of rehearsal.old.files)) (P.log real.new) path.now diff) }
+    ensures goes_on { OnOk result (GoesOn (P.log real.old) (P.log real.new)) }
+    ensures kept { OnOk result (written (log_of rehearsal.new.files) ≡ written (log_of rehearsal.old.files)) }
 {
-    let name = path.as_slice();
-    let written = rehearsal.read(name)?;
-    match (found_at(rt, path)?, written) {
-        (Some(Answer::Bytes(old)), Answer::Bytes(new)) => {
-            diff_between(rt, name, name, old.as_slice(), new.as_slice())
-        }
-        (Some(Answer::Missing), Answer::Bytes(new)) => {
-            diff_between(rt, NO_FILE, name, &[], new.as_slice())
-        }
-        _ => Ok(Bytes::new(rt.alloc())),
+    let told = rehearsal.read(path)?;
+    let found = found_at(rt, real, path)?;
+    match told {
+        Answer::Bytes(told) => diff_of(rt.alloc(), colours, path, &found, told.as_slice()),
+        // What was written has bytes.
+        Answer::Missing | Answer::Refused | Answer::Done => Ok(Bytes::new(rt.alloc())),
     }
 }
 
-/// The diff of these bytes, under these names, in colours on a terminal.
-fn diff_between<R: AllocGlobal + Screen>(
-    rt: &R,
-    old_name: &[u8],
-    new_name: &[u8],
-    old: &[u8],
-    new: &[u8],
-) -> Result<Bytes, AllocError> {
-    write_unified(rt.alloc(), rt.is_screen(), old_name, new_name, old, new)
+/// The diff of the file at a path, by what a read of it was answered and what it is to have; nothing, where it can't be read.
+fn diff_of(
+    alloc: Global,
+    colours: bool,
+    path: &[u8],
+    found: &Answer,
+    told: &[u8],
+) -> Result<Bytes, AllocError>
+    ensures exact { IfOk result (λ diff. IsChange colours path.now found.now told.now diff) }
+{
+    match found {
+        Answer::Bytes(old) => write_unified(alloc, colours, path, path, old.as_slice(), told),
+        Answer::Missing => write_unified(alloc, colours, NO_FILE, path, &[], told),
+        Answer::Refused | Answer::Done => Ok(Bytes::new(alloc)),
+    }
 }
 
-/// What is at a path: a plain file's bytes, or that nothing is there. None of what may have no end, or wait.
-fn found_at<R>(rt: &R, path: &Bytes) -> Result<Option<Answer>, AllocError>
+/// What a read of a path is answered. What may have no end, or wait, isn't read, and refused.
+fn found_at<R, P>(rt: &R, real: &mut P, path: &[u8]) -> Result<Answer, AllocError>
 where
-    R: Files<File = File> + AllocGlobal,
+    R: Files<File = File>,
+    P: Outside,
+    ensures found { IfOk result (λ found. IsFound path.now (P.log real.new) found) }
+    ensures goes_on { OnOk result (GoesOn (P.log real.old) (P.log real.new)) }
 {
-    let Ok(name) = str::from_utf8(path.as_slice()) else {
-        return Ok(None);
+    if ends(rt, path) {
+        real.read(path)
+    } else {
+        Ok(Answer::Refused)
+    }
+}
+
+/// Whether a read of a path comes to an end by itself: a plain file is there, or nothing. What the system says, no clause knows.
+fn ends<R: Files<File = File>>(rt: &R, path: &[u8]) -> bool {
+    let Ok(name) = str::from_utf8(path) else {
+        return false;
     };
     match fs::metadata(rt, name) {
-        Ok(found) if !found.is_file() => Ok(None),
-        _ => Ok(Some(DiskFiles::new(rt.alloc(), rt).read(path.as_slice())?)),
+        Ok(found) => found.is_file(),
+        Err(_) => true,
     }
 }

@@ -1,6 +1,6 @@
 //! Which files couldn't be written, as far as that is seen without writing them, and which would be left as they are. What the system says, no
 //! clause knows.
-ghost use Rattle.std.specs.Prelude.{◌≢◌, [], IsTrue};
+ghost use Rattle.std.specs.Prelude.{◌≡◌, ◌≢◌, [], is_some, IsTrue};
 ghost use Rattle.ed_session.specs.MemFiles.{log_of};
 ghost use Rattle.rehearsal.specs.Held.{writes_of};
 
@@ -22,13 +22,15 @@ use whole::Lookahead;
 
 /// Shows the writes of a rehearsal, as they would have been made, or why they couldn't be, and says whether one couldn't be: in place, or where
 /// files are to be replaced whole, by a look ahead at their paths. What would be left as it is, since it has the bytes already, is told where files
-/// are spared. What they would change is shown too where that is asked for; that it couldn't be shown is said as of a write.
+/// are spared. What they would change is shown too where that is asked for; that it couldn't be shown is said as of a write. Where the run came to
+/// a fault after which all files stay as they are, it shows only what couldn't be written before that.
 pub fn show_writes<R, O>(
     rt: &R,
     rehearsal: &mut Rehearsal<O>,
     ahead: Option<Lookahead>,
     spares: bool,
     shows: bool,
+    all_stay: bool,
 ) -> bool
 where
     R: Files<File = File> + Print + Eprint + AllocGlobal + Screen,
@@ -36,18 +38,23 @@ where
     ensures some { IsTrue result → writes_of (log_of rehearsal.old.files) ≢ [] }
 {
     let is_one = !rehearsal.writes().is_empty();
+    if all_stay {
+        return is_one && show_each(rt, rehearsal.writes(), None, ahead);
+    }
     let mut stay = Vec::new(rt.alloc());
     if ahead.is_some() || spares {
         // Of those for which there is no memory it isn't told.
         let _ = look_which_stay(rt, rehearsal, &mut stay);
     }
-    let is_hindered = show_each(rt, rehearsal.writes(), stay.as_slice(), ahead);
+    let is_hindered = show_each(rt, rehearsal.writes(), Some(stay.as_slice()), ahead);
     let is_untold = shows && !show_diffs(rt, rehearsal);
     is_one && (is_hindered || is_untold)
 }
 
 /// A look ahead at the files of a run, where they are to be replaced whole, and kept under their names with this suffix if there is one.
-pub fn look_ahead(alloc: Global, whole: bool, suffix: Option<Suffix>) -> Option<Lookahead> {
+pub fn look_ahead(alloc: Global, whole: bool, suffix: Option<Suffix>) -> Option<Lookahead>
+    ensures asked { is_some result ≡ whole }
+{
     match suffix {
         Some(suffix) if whole => Some(Lookahead::new(alloc, Some(suffix.into_text()))),
         None if whole => Some(Lookahead::new(alloc, None)),
@@ -55,8 +62,14 @@ pub fn look_ahead(alloc: Global, whole: bool, suffix: Option<Suffix>) -> Option<
     }
 }
 
-/// Shows each of these writes, and says whether one couldn't be made. Of those from the first on it was seen whether the file would stay as it is.
-fn show_each<R>(rt: &R, writes: &[HeldWrite], stay: &[bool], mut ahead: Option<Lookahead>) -> bool
+/// Shows each of these writes, and says whether one couldn't be made. Of those from the first on it was seen whether the file would stay as it
+/// is; without that only those are shown that couldn't be made.
+fn show_each<R>(
+    rt: &R,
+    writes: &[HeldWrite],
+    stay: Option<&[bool]>,
+    mut ahead: Option<Lookahead>,
+) -> bool
 where
     R: Files<File = File> + Eprint + AllocGlobal,
 {
@@ -74,8 +87,10 @@ where
                 found = true;
             }
             _ => {
-                let stays = stay.get(place).copied().unwrap_or(false);
-                show_held(rt.alloc(), rt, write, stays);
+                if let Some(stay) = stay {
+                    let stays = stay.get(place).copied().unwrap_or(false);
+                    show_held(rt.alloc(), rt, write, stays);
+                }
             }
         }
     }

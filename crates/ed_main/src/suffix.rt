@@ -1,5 +1,5 @@
 //! What is added to a file's name for that of its backup.
-ghost use Rattle.std.specs.Prelude.{◌≡◌, IfOk};
+ghost use Rattle.std.specs.Prelude.{◌≡◌, string_bytes, IfOk};
 
 use std::alloc::{AllocError, Global};
 use std::marker::Model;
@@ -28,7 +28,9 @@ impl Suffix {
     }
 
     /// The suffix as a text. It takes no memory.
-    pub fn into_text(self) -> String {
+    pub fn into_text(self) -> String
+        ensures value { string_bytes result ≡ self }
+    {
         self.text
     }
 }

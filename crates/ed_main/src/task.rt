@@ -146,7 +146,8 @@ where
     rehearsal.writes_are_done();
     rehearsal.reads_show_what_was_written();
     let ahead = look_ahead(rt.alloc(), whole, suffix);
-    let is_hindered = show_writes(rt, &mut rehearsal, ahead, spares, shows);
+    let all_stay = whole && status > 0;
+    let is_hindered = show_writes(rt, &mut rehearsal, ahead, spares, shows, all_stay);
     status_ahead(status, is_hindered)
 }
 
