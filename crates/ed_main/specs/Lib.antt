@@ -7,4 +7,6 @@ pub mod Chains
 pub mod Wanted
 pub mod Words
 pub mod Job
+pub mod Meant
+pub mod Diffs
 pub mod Program

@@ -1,7 +1,6 @@
 -- The status that the program ends with, whatever its words, its script and its certificate are, and whatever the files answer (our
 -- choice; where memory ran out or an input isn't read, it is that of the editor's fault).
-use Rattle.std.specs.Prelude.{◌≡◌, ◌≢◌, ◌⊎◌, ℕ, ◌^◌, Bool, true, false, ◌&&◌, List, [], codes, nat_eq, Option, None, Some, is_none, if◌then◌else◌, IsTrue}
-use Rattle.std.specs.List.{ends_with}
+use Rattle.std.specs.Prelude.{◌≡◌, ◌≢◌, ◌⊎◌, ℕ, ◌^◌, Bool, true, false, ◌&&◌, List, [], Option, None, Some, is_none, if◌then◌else◌, IsTrue, IsFalse}
 use Rattle.ed_base.specs.Fault.{status_of}
 use Rattle.ed_base.specs.declared.fault.Fault.TheVariants as fault
 use Rattle.ed_syntax.specs.declared.options.Options.{Options}
@@ -33,8 +32,9 @@ use Rattle.ed_main.specs.declared.writing.Writing.{Writing}
 use Rattle.ed_main.specs.declared.writing.Writing.TheVariants as writing
 use Rattle.ed_main.specs.Job.{IsGiven}
 use Rattle.ed_main.specs.Letters.{WithLetters}
+use Rattle.ed_main.specs.Meant.{IsMistaken, is_empty_for_script}
 use Rattle.ed_main.specs.Several.{Judges, names_none, status_of_unread}
-use Rattle.ed_main.specs.Wanted.{WithFile, WithStarts, wanted_path}
+use Rattle.ed_main.specs.Wanted.{WithFile, WithStarts}
 
 -- how many bytes of a script, and of a certificate, are read at most
 abbrev pub most_bytes : ℕ
@@ -153,22 +153,14 @@ Does script (job.Check path named) = WithFile (λ certificate. Somehow (λ met. 
 Does script (job.Run path options named writes) = WithFile (λ certificate. Somehow (Writes writes (RunsOn script certificate options)))
 Does script (job.Fits certificate path) = WithFile (λ bytes. Somehow (λ met. Fits bytes path met.log met.sink))
 
--- a file's name is like that of a script: it ends in `.ed`
-abbrev pub is_named_as_script : Option (List ℕ) → Bool
-is_named_as_script None = false
-is_named_as_script (Some path) = ends_with nat_eq path (codes ".ed")
+-- What a job comes to, for a script of these bytes: an empty one is refused where its file is named like a script, and where what is read of
+-- that file looks like one.
+pub data DoesIfMeant (script : List ℕ) (asked : Job) (status : ℕ) : Type 0 where
+  mistaken : script ≡ [] → IsMistaken asked → status ≡ 4 → DoesIfMeant script asked status
+  meant : IsFalse (is_empty_for_script script asked) → Does script asked status → DoesIfMeant script asked status
 
--- a script is judged that is read from standard input, for a file whose name is like that of a script
-abbrev pub mistakes_script : Job → Bool
-mistakes_script (job.Edit options None writes (Some wanted)) = is_named_as_script options.path
-mistakes_script (job.Vouch wanted None all) = is_named_as_script (wanted_path wanted)
-mistakes_script (job.Judge wanted scripts detail) = names_none scripts && is_named_as_script (wanted_path wanted)
-mistakes_script other = false
-
--- The words weren't understood; or the script wasn't read for a job that wants one; or it is empty, and the file for which it is judged may be
--- the script that was meant; or a job was done for a script.
+-- The words weren't understood; or the script wasn't read for a job that wants one; or a job was done for a script, unless that was mistaken.
 pub data IsEnding (status : ℕ) : Type 0 where
   refused : (fault : WordsFault) → EndsWords fault status → IsEnding status
   unread : (asked : Job) → IsGiven asked → IsTrue (wants_script asked) → (fault : ReadFault) → status ≡ status_of_unread fault → IsEnding status
-  mistaken : (asked : Job) → IsGiven asked → IsTrue (mistakes_script asked) → status ≡ 4 → IsEnding status
-  did : (script : List ℕ) (asked : Job) → IsGiven asked → Does script asked status → IsEnding status
+  did : (script : List ℕ) (asked : Job) → IsGiven asked → DoesIfMeant script asked status → IsEnding status

@@ -1,24 +1,15 @@
 //! What the program is to do.
 ghost use Rattle.std.specs.Prelude.{◌≡◌};
 ghost use Rattle.std.specs.Option.{option_copied};
-ghost use Rattle.ed_main.specs.Program.{is_named_as_script, mistakes_script, script_named, wants_input};
+ghost use Rattle.ed_main.specs.Meant.{judged_file};
+ghost use Rattle.ed_main.specs.Program.{script_named, wants_input};
 
 use crate::paths::Paths;
 use crate::wanted::Wanted;
 use crate::writing::Writing;
 use ed_base::Bytes;
-use ed_calls::{Detail, is_named_as_script};
+use ed_calls::Detail;
 use ed_syntax::Options;
-
-/// Whether a file's name is like that of a script.
-fn is_script(path: &Option<Bytes>) -> bool
-    ensures value { result ≡ is_named_as_script path.now }
-{
-    match path {
-        Some(path) => is_named_as_script(path.as_slice()),
-        None => false,
-    }
-}
 
 /// What the program is to do. A script comes from the file at the path `script`, or without one from standard input.
 #[derive(Debug, Drop)]
@@ -99,9 +90,9 @@ impl Job {
         )
     }
 
-    /// Whether a script is judged that is read from standard input, for a file whose name is like that of a script.
-    pub fn mistakes_script(&self) -> bool
-        ensures value { result ≡ mistakes_script self.now }
+    /// The path of the file for which a script is judged that is read from standard input.
+    pub fn judged_file(&self) -> Option<&Bytes>
+        ensures value { option_copied result ≡ judged_file self.now }
     {
         match self {
             Job::Edit {
@@ -109,18 +100,18 @@ impl Job {
                 script: None,
                 judged: Some(_),
                 ..
-            } => is_script(&options.path),
+            } => options.path.as_ref(),
             Job::Vouch {
                 wanted,
                 script: None,
                 ..
-            } => is_script(wanted.path()),
+            } => wanted.path().as_ref(),
             Job::Judge {
                 wanted,
                 scripts,
                 ..
-            } => scripts.are_none() && is_script(wanted.path()),
-            _ => false,
+            } if scripts.are_none() => wanted.path().as_ref(),
+            _ => None,
         }
     }
 

@@ -8,6 +8,7 @@ mod hindered;
 mod inputs;
 mod job;
 mod letters;
+mod meant;
 mod paths;
 mod patterns;
 mod program;

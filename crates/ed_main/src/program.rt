@@ -1,5 +1,5 @@
 //! One run of the program: its words, its script, its files, and the status that it ends with.
-ghost use Rattle.std.specs.Prelude.{◌≤◌, ℕ, List, Option, IfOk, IfSome, IsTrue};
+ghost use Rattle.std.specs.Prelude.{◌≤◌, ℕ, List, Option, IfOk, IfSome};
 ghost use Rattle.ed_calls.specs.Check.{Checks};
 ghost use Rattle.ed_calls.specs.Explains.{Explains, ExplainsBy};
 ghost use Rattle.ed_calls.specs.Fits.{Fits};
@@ -7,7 +7,7 @@ ghost use Rattle.ed_calls.specs.Told.{Says};
 ghost use Rattle.ed_calls.specs.Vouch.{Vouches};
 ghost use Rattle.ed_main.specs.Job.{IsGiven};
 ghost use Rattle.ed_main.specs.Letters.{WithLetters};
-ghost use Rattle.ed_main.specs.Program.{Does, Edits, EditsVouched, EndsWords, IsEnding, RunsOn, Somehow, Writes, mistakes_script};
+ghost use Rattle.ed_main.specs.Program.{Does, DoesIfMeant, Edits, EditsVouched, EndsWords, IsEnding, RunsOn, Somehow, Writes};
 ghost use Rattle.ed_main.specs.Several.{Judges};
 ghost use Rattle.ed_main.specs.Starts.{AreStarts};
 ghost use Rattle.ed_main.specs.Wanted.{IsWanted, WithFile, WithStarts};
@@ -16,6 +16,7 @@ ghost use Rattle.ed_main.specs.declared.job.Job.TheVariants as jobs;
 use crate::inputs::{bytes_at, refuse_script, script_from, status_of_read};
 use crate::job::Job;
 use crate::letters::{USAGE_STATUS, refusal_for};
+use crate::meant::is_mistaken;
 use crate::paths::Paths;
 use crate::proposing::starts_from;
 use crate::screen::Screen;
@@ -102,22 +103,16 @@ where
     R: Files<File = File> + Print + Eprint + AllocGlobal + Screen,
     requires given { IsGiven job }
     ensures status { result ≤ 5 }
+    ensures did { DoesIfMeant script.now job result }
     ensures ending { IsEnding result }
 {
-    if is_mistaken(script, &job) {
+    if is_mistaken(rt, script, &job) {
         show_mistaken(rt.alloc(), rt, &job);
         return USAGE_STATUS;
     }
     show_empty(rt.alloc(), rt, script, &job);
     show_no_file(rt, &job);
     do_job(rt, script, job)
-}
-
-/// Whether a script that is judged is empty, and its file may be the one that was meant.
-fn is_mistaken(script: &[u8], job: &Job) -> bool
-    ensures sound { IsTrue result → IsTrue (mistakes_script job.now) }
-{
-    script.is_empty() && job.mistakes_script()
 }
 
 /// Does a job with the script's bytes.
